@@ -65,7 +65,7 @@ impl<'a> Definitions<'a> {
     }
 }
 
-/// What was read so far.
+/// The definitions that were read so far.
 pub(super) struct Reader<'a> {
     pub all: Definitions<'a>,
     /// The scopes around the next definition, the outermost first.
@@ -87,11 +87,11 @@ pub(super) struct Open<'a> {
     pub assumed: Option<IndexCounts>,
     /// The number of exports in the scopes around it.
     names: usize,
-    /// Whether it is a list in an instance, whose indices are meant in the scope around it.
+    /// Whether it is a list in an instance, whose indices belong to the scope around it.
     is_list: bool,
 }
 
-/// Returns a number of definitions, which take more memory than there are numbers.
+/// Converts a number of definitions, which exceeds 32 bits only after memory has run out.
 pub(super) fn numbered(len: usize) -> Result<u32, ListFault> {
     u32::try_from(len).ok().filter(|number| *number != NONE).ok_or(ListFault::NoMemory)
 }
@@ -294,7 +294,7 @@ impl<'a> Reader<'a> {
         push(&mut self.all.entries, entry)
     }
 
-    /// Puts an entry after those of its space.
+    /// Links an entry to the earlier ones of its space.
     fn chain(&mut self, space: Space, number: u32, entry: &mut Entry<'a>) {
         let newest = &mut self.all.frames[entry.scope as usize].newest[space.number()];
         let previous = mem::replace(newest, number);

@@ -18,7 +18,7 @@ impl<'s, 'a> Definition<'s, 'a> {
         Self { all, number }
     }
 
-    /// Returns what it is.
+    /// Returns the item, the declaration or the member of a list that it is.
     pub fn meaning(self) -> Meaning<'a> {
         self.all.entry(self.number).meaning
     }
@@ -29,7 +29,7 @@ impl<'s, 'a> Definition<'s, 'a> {
         self.all.entry(self.number).place
     }
 
-    /// Returns the space of what it is; `None` for a custom section.
+    /// Returns the index space of its kind; `None` for a custom section.
     pub fn space(self) -> Option<Space> {
         self.all.entry(self.number).space
     }
@@ -47,9 +47,9 @@ impl<'s, 'a> Definition<'s, 'a> {
         self.all.entry(self.number).count
     }
 
-    /// Returns the scope in which its own indices are meant, as it is before this definition: an
-    /// index in it is of another definition, which is before this one. Types of a recursion group,
-    /// which may refer to each other, aren't found so.
+    /// Returns the scope that its own indices belong to, as far as it is defined before this
+    /// definition. It doesn't have the types of the same recursion group, which may refer to each
+    /// other.
     pub fn scope(self) -> Scope<'s, 'a> {
         let entry = self.all.entry(self.number);
         Scope { all: self.all, number: entry.scope, before: self.number, place: entry.place }
@@ -63,11 +63,11 @@ impl<'s, 'a> Definition<'s, 'a> {
         (entry.inner != NONE).then_some(scope)
     }
 
-    /// Returns the definition that this one is the same as: the exported item, what an alias is of,
-    /// the argument, or for a type with the bound `Eq` that type. `None` if this one is no other.
+    /// Returns the definition that this one is the same as: the exported or aliased item, the
+    /// argument, or for a type with the bound `Eq` that type. `None` if there is none.
     ///
-    /// An alias of what a core instance exports is no other if the instance is one of a module,
-    /// whose bytes aren't read.
+    /// There is none for an alias of an export of a module's instance, as the module's bytes aren't
+    /// read.
     ///
     /// # Errors
     ///
@@ -80,11 +80,11 @@ impl<'s, 'a> Definition<'s, 'a> {
         Ok((entry.target != NONE).then_some(Self { number: entry.target, ..self }))
     }
 
-    /// Returns the last of the definitions that this one is the same as, or itself if it is no
-    /// other.
+    /// Returns the last of the definitions that this one is the same as, or itself if there is
+    /// none.
     ///
-    /// An import is the last one, except of a type with the bound `Eq`; so is one of a nested
-    /// component, whose instances have it from an [argument](Meaning::Argument).
+    /// Imports aren't followed, except of types with the bound `Eq`: neither are those of a nested
+    /// component, for which an instance has an [argument](Meaning::Argument).
     ///
     /// # Errors
     ///

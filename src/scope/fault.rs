@@ -1,4 +1,4 @@
-//! What can't be followed.
+//! Why definitions can't be followed.
 
 use crate::tree::Space;
 use core::fmt;
@@ -8,7 +8,7 @@ use core::fmt;
 ///
 /// Needs the feature `walk`.
 ///
-/// It doesn't convert into [`Error`](crate::Error), which says what can't be written.
+/// It isn't an [`Error`](crate::Error), which is about encoding.
 #[derive(Clone, Copy, Debug, PartialEq, Eq)]
 #[non_exhaustive]
 pub enum ScopeFault {
@@ -27,14 +27,14 @@ pub enum ScopeFault {
     NoExport {
         /// The byte offset of the alias.
         place: usize,
-        /// The space that the export is to be in.
+        /// The space that it is expected in.
         space: Space,
     },
     /// The instance has an export with the name that an alias has, of another kind.
     OtherExport {
         /// The byte offset of the alias.
         place: usize,
-        /// The space that the export is to be in.
+        /// The space that it is expected in.
         space: Space,
         /// The space that it is in.
         found: Space,
@@ -49,11 +49,11 @@ pub enum ScopeFault {
         /// The byte offset from which on items can't be read.
         unread: usize,
     },
-    /// The type of a component, an instance or a core module is that of something else.
+    /// The type of a component, an instance or a core module is a type of another kind.
     OtherType {
         /// The byte offset of the import or the declaration with that type.
         place: usize,
-        /// The space that the type is of.
+        /// The space of the component, the instance or the core module.
         space: Space,
     },
 }

@@ -27,13 +27,13 @@ impl Definitions<'_> {
         &names[..names.iter().take_while(|(other, _)| *other == name).count()]
     }
 
-    /// Returns what an index is in the end that is meant where this entry is.
+    /// Returns the last entry that the one of an index is the same as, seen from this entry.
     fn resolved(&self, number: u32, space: Space, index: u32) -> Result<u32, ScopeFault> {
         let entry = self.entry(number);
         self.last_of(self.find((entry.scope, number, entry.place), space, index)?)
     }
 
-    /// Returns the scope with the exports of an entry that is no other; `None` if there is none.
+    /// Returns the scope with the exports of a resolved entry; `None` if there is none.
     pub(super) fn exports_of(&self, number: u32) -> Result<Option<u32>, ScopeFault> {
         let entry = self.entry(number);
         let of = |space, index| self.exports_of(self.resolved(number, space, index)?);
@@ -76,8 +76,8 @@ impl Definitions<'_> {
         }
     }
 
-    /// Returns the entry that this one at this byte offset is the same as, given the scopes that
-    /// are so many further out. `None` if it is no other.
+    /// Returns the entry that this one at this byte offset is the same as, given the scopes around
+    /// it by their distance. `None` if there is none.
     pub(super) fn target_of(
         &self,
         around: impl Fn(usize) -> Option<u32>,

@@ -69,9 +69,9 @@ pub enum Meaning<'a> {
 
 /// What a definition is the same as.
 pub(super) enum Same<'a> {
-    /// What has this index, this many scopes further out.
+    /// The definition with this index, this many scopes further out.
     Index(u32, Space, u32),
-    /// What an instance exports, whose space and index come first.
+    /// An export of the instance with this space and index.
     Export((Space, u32), &'a str, Space),
 }
 
@@ -87,7 +87,7 @@ impl<'a> Meaning<'a> {
         }
     }
 
-    /// Returns the space of what it is.
+    /// Returns the index space of its kind.
     pub(super) fn space(&self) -> Option<Space> {
         match self {
             Self::Argument { kind, .. } => Some((*kind).into()),
@@ -144,7 +144,7 @@ impl<'a> Meaning<'a> {
         }
     }
 
-    /// Returns what it is the same as.
+    /// Returns the definition that it is the same as.
     pub(super) fn same(&self) -> Option<Same<'a>> {
         match *self {
             Self::Item(ItemView::Import {
