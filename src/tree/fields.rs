@@ -2,8 +2,8 @@
 //! come the [`Node`]s of owned and borrowed items, and the indices of owned ones.
 //!
 //! An entry `CaseTree = CaseView` is for the owned type and for the borrowed one, whose variants
-//! and fields have the same names. A field is written as in the Rust type. What follows its name,
-//! if anything, says what it is:
+//! and fields have the same names. A field is written as in the Rust type. The words after its
+//! name, if any, are its role:
 //!
 //! - `Types`, or another [`Space`]: an index in that space, or an option or a list of such;
 //! - `(last Types)`: such an index, which is encoded after the other fields;
@@ -12,7 +12,7 @@
 //! - `inner`: the declarations of a type that has index spaces of its own;
 //! - `group`: core types that may refer to each other.
 //!
-//! What follows `=>` are the indices that a variant defines, if it is a declaration.
+//! The indices that a variant defines, if it is a declaration, follow `=>`.
 
 #[cfg(feature = "tree")]
 mod owned;

@@ -41,7 +41,7 @@ pub(in crate::tree) fn each_index(
         let Some(shape) = tree.shape_mut(&mut values) else {
             return values.take(0).map_or((), |tree| tree.visit(place, visitor));
         };
-        // the field that is visited behind those before it
+        // the field that is visited after the others
         let mut left: Option<(&mut dyn TreeMut, Place<'_>)> = None;
         for (at, (_, role)) in shape.fields.iter().enumerate() {
             let Some(value) = values.take(at) else { continue };

@@ -1,4 +1,4 @@
-//! Random items, by the table of fields, and what reading gives of them.
+//! Random items, by the table of fields, and their reading.
 
 use super::NameOptions;
 use crate::tree::{Box, CoreArrayType, CoreFuncType, CoreValType, Global, ItemTree};

@@ -1,4 +1,4 @@
-//! What is constant of a variant or a struct, as data: one function makes the nodes of all types
+//! The constant part of a variant or a struct, as data: one function makes the nodes of all types
 //! from it, and another visits their indices.
 
 use super::{Place, Refs, Space, Tree};
@@ -16,7 +16,7 @@ pub(super) fn named<'a>(all: &[(&'static str, Child<'a>)]) -> Named<'a> {
     named
 }
 
-/// What a field is, besides its value.
+/// The role of a field.
 #[derive(Clone, Copy)]
 pub(super) enum Role {
     /// A value that isn't an index.
@@ -34,7 +34,7 @@ pub(super) enum Role {
     Index(Space),
 }
 
-/// How a variant or a struct is shown.
+/// The kind of node of a variant or a struct.
 #[derive(Clone, Copy)]
 pub(super) enum Kind {
     /// A variant without fields.
@@ -210,7 +210,7 @@ macro_rules! shape {
     };
 }
 
-/// Sets the values that are there, and how far out an index is, if it is outer. Returns the shape
+/// Sets the values of the fields, and how far out the scope of an outer index is. Returns the shape
 /// with this name.
 macro_rules! filled {
     ($values:ident $shape:ident [($count:expr, $space:expr)] $($value:ident)+) => {{
