@@ -1,4 +1,4 @@
-//! What core modules export.
+//! Exports of core modules.
 
 pub use crate::proved::wasm_encoder::ExportKind;
 

@@ -1,4 +1,4 @@
-//! What core modules import.
+//! Imports of core modules.
 
 use super::{GlobalType, MemoryType, TableType, TagType};
 

@@ -66,8 +66,7 @@ impl<'a> NestedSections<'a> {
         outer.left.map_or(Ok(()), |left| self.around.push(left.ends))
     }
 
-    /// Goes on with the component around the innermost one, after that. Returns whether there is
-    /// one.
+    /// Continues after the innermost component, in the one around it. Returns whether there is one.
     fn leave(&mut self) -> bool {
         let (Some(ends), Some(left)) = (self.around.pop(), self.innermost.left) else {
             return false;

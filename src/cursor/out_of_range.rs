@@ -31,9 +31,9 @@ pub struct OutOfRange {
 /// Finds the indices in a component that are out of range.
 pub(super) struct Finder<'a> {
     steps: Steps<'a>,
-    /// What the components around the next item have so far, the outermost first.
+    /// The index counts of the components around the next item, the outermost first.
     counts: Vec<IndexCounts>,
-    /// What was found in the last item.
+    /// The indices that were found in the last item.
     found: VecDeque<OutOfRange>,
 }
 

@@ -65,7 +65,7 @@ impl<'a> NamesReader<'a> {
         Some(Self { data, rest: Some(data.get(place..)?), within })
     }
 
-    /// Returns from where on names are left, as [`at`](Self::at) takes it; `None` after an error.
+    /// Returns the position of the next name, as [`at`](Self::at) takes it; `None` after an error.
     ///
     /// ```
     /// use wenc::NamesReader;

@@ -10,7 +10,7 @@ pub trait Allocator {}
 #[derive(Clone, Copy, Debug, Default, PartialEq, Eq, Hash)]
 pub struct Global;
 
-/// Returns whether a test plans that the next allocation is refused.
+/// Returns an error if a test makes the next allocation fail.
 #[inline]
 pub(crate) fn is_refused() -> bool {
     #[cfg(all(test, has_tests))]
