@@ -63,7 +63,7 @@ pub use proved::ComponentSectionId;
 /// assert_eq!(component.as_slice()[8..], [0, 3, 1, b'x', 7]);
 /// ```
 pub trait ComponentSection: Encode {
-    /// Returns the section's id, from 0 to 255.
+    /// Returns the section's id.
     fn id(&self) -> u8;
 
     /// Appends the section with its id to `dst`.
@@ -257,7 +257,7 @@ impl TryFrom<u8> for ComponentSectionId {
 /// ```
 #[derive(Clone, Copy, Debug, PartialEq, Eq, Hash)]
 pub struct UnknownSectionId(
-    /// The id, from 0 to 255.
+    /// The id.
     pub u8,
 );
 

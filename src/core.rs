@@ -64,7 +64,7 @@ use alloc::vec::Vec;
 /// assert_eq!(module.as_slice()[8..], [12, 1, 0]);
 /// ```
 pub trait Section: Encode {
-    /// Returns the section's id, from 0 to 255.
+    /// Returns the section's id.
     fn id(&self) -> u8;
 
     /// Appends the section with its id to `dst`.

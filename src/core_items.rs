@@ -26,9 +26,9 @@ pub enum CoreItem<'a> {
     Export {
         /// Its name.
         name: &'a str,
-        /// What is exported.
+        /// The kind of the exported item.
         kind: ExportKind,
-        /// The index of what is exported, among those of its kind.
+        /// The index of the exported item, among those of its kind.
         index: u32,
     },
     /// The function that is called at instantiation.
@@ -134,7 +134,7 @@ pub struct CoreItems<'a> {
 }
 
 impl<'a> CoreItems<'a> {
-    /// The fault of a part that is refused.
+    /// Returns the fault of a part that can't be read.
     fn bad(&self, unread: Unread, refusal: Option<Refusal>) -> ModuleFault {
         let start = self.end - self.rest.len();
         let cause = |refusal| Cause::new(self.rest, self.rest.len(), refusal).moved(start);

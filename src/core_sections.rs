@@ -14,7 +14,7 @@ use core::ops::Range;
 /// Needs the feature `walk`.
 #[derive(Clone, Debug, PartialEq, Eq)]
 pub struct CoreSection<'a> {
-    /// Its id, from 0 to 255.
+    /// Its id.
     pub id: u8,
     /// The name of a custom section; `None` for every other section.
     pub name: Option<&'a str>,
@@ -165,7 +165,7 @@ pub enum ModuleFault {
     BadItem {
         /// The first part of it that can't be read, by its byte offset in the module.
         unread: Unread,
-        /// Why it can't be read; `None` for bytes behind the last item.
+        /// Why it can't be read; `None` for bytes after the last item.
         cause: Option<Cause>,
     },
 }

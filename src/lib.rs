@@ -84,8 +84,8 @@
 //! take longer to compile:
 //!
 //! - `walk` adds the reading of components, whose items borrow from its bytes: [`Sections`],
-//!   [`CoreSections`], [`DebugNames`], [`ProducersReader`], [`scope`], [`view`], and of [`tree`]
-//!   what is of borrowed and of owned items: `Node`, `Space`, `Scope`, `IndexCounts` and core
+//!   [`CoreSections`], [`DebugNames`], [`ProducersReader`], [`scope`], [`view`], and the types of
+//!   [`tree`] that borrowed and owned items share: `Node`, `Space`, `Scope`, `IndexCounts` and core
 //!   types.
 //! - `tree` adds items that own what they contain, to `walk`: [`list`], [`ItemSection`], the other
 //!   types of [`tree`], and the calls that take or return them.
@@ -102,7 +102,7 @@
 #![cfg_attr(not(feature = "walk"), doc = "[`scope`]: #features")]
 #![cfg_attr(not(feature = "walk"), doc = "[`tree`]: #features")]
 #![cfg_attr(not(feature = "walk"), doc = "[`view`]: #features")]
-// Documentation of what walks links to what owns.
+// The documentation of `walk` links to types of `tree`.
 #![cfg_attr(
     all(feature = "walk", not(feature = "tree")),
     allow(rustdoc::broken_intra_doc_links, rustdoc::private_intra_doc_links)
@@ -147,7 +147,7 @@ mod rewrite;
 pub mod scope;
 // Without `tree`, parts of it aren't used.
 #[cfg_attr(not(feature = "tree"), allow(dead_code, unused_imports))]
-// It reserves first what it then calls.
+// It reserves memory before it calls what would abort.
 #[allow(clippy::disallowed_methods)]
 mod shim;
 #[cfg(feature = "walk")]

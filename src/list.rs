@@ -73,7 +73,7 @@ pub enum ListFault {
         section: ComponentSectionId,
         /// The first part of it that can't be read.
         unread: Option<Unread>,
-        /// Why it can't be read; `None` for bytes behind the last item.
+        /// Why it can't be read; `None` for bytes after the last item.
         cause: Option<Cause>,
     },
     /// A section has types that are nested more than 100 deep, or is a component that is nested
@@ -192,7 +192,7 @@ fn write_expected(
     write!(f, " where {} is expected", item_of(section))
 }
 
-/// Writes why, behind what.
+/// Writes the cause, after the part that can't be read.
 #[inline]
 pub(crate) fn write_cause(f: &mut fmt::Formatter<'_>, cause: Option<Cause>) -> fmt::Result {
     cause.map_or(Ok(()), |cause| write!(f, ": {cause}"))

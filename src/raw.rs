@@ -4,10 +4,9 @@ use crate::core::in_either;
 use crate::encode::encode;
 use crate::proved::wasm_encoder as proved;
 
-/// A section given as its id, from 0 to 255, and its bytes after the size ([WebAssembly 3.0, binary
-/// format, "Sections"][sections]; [component model, binary format, "Component
-/// Definitions"][definitions]). The bytes aren't checked. It can't be encoded with more than
-/// 4294967295 bytes.
+/// A section given as its id and its bytes after the size ([WebAssembly 3.0, binary format,
+/// "Sections"][sections]; [component model, binary format, "Component Definitions"][definitions]).
+/// The bytes aren't checked. It can't be encoded with more than 4294967295 bytes.
 ///
 /// [sections]: https://webassembly.github.io/spec/core/binary/modules.html#sections
 /// [definitions]: https://github.com/WebAssembly/component-model/blob/main/design/mvp/Binary.md#component-definitions

@@ -77,7 +77,7 @@ pub struct Definitions<'a> {
     frames: Vec<Frame>,
     /// The exports of each scope, by their names.
     names: Vec<(&'a str, u32)>,
-    /// What can't be followed, in the order of the entries.
+    /// The faults of entries that can't be followed, in the order of the entries.
     faults: Vec<(u32, ScopeFault)>,
 }
 
@@ -90,17 +90,17 @@ struct Entry<'a> {
     /// The number of its indices.
     count: u32,
     space: Option<Space>,
-    /// The scope in which its own indices are meant.
+    /// The scope that its own indices belong to.
     scope: u32,
     /// The entry of the index before it in its space, or itself if it is the first.
     previous: u32,
-    /// An entry further before it, so that each is found in a logarithmic number of steps.
+    /// An earlier entry, through which any is found in a logarithmic number of steps.
     jump: u32,
     /// The number of entries in its space that are before it.
     depth: u32,
     /// The next definition of the scope, or of the instance's list.
     next: u32,
-    /// What it is the same as.
+    /// The definition that it is the same as.
     target: u32,
     /// The last of those that it is the same as: itself if it isn't, or can't be followed.
     last: u32,
@@ -166,7 +166,7 @@ impl<'a> Definitions<'a> {
         self.seek(self.frame(scope).newest[space.number()], |number, _| number < before)
     }
 
-    /// Returns the newest entry, from this one on, that is wanted: so are all those before it.
+    /// Returns the newest entry, from this one back, that is wanted; all earlier ones are, too.
     fn seek(&self, mut number: u32, is_wanted: impl Fn(u32, &Entry) -> bool) -> Option<u32> {
         if number == NONE {
             return None;
@@ -238,9 +238,9 @@ impl fmt::Debug for Definitions<'_> {
 pub struct Scope<'s, 'a> {
     all: &'s Definitions<'a>,
     number: u32,
-    /// The number of the entry before which definitions are seen.
+    /// The number of the first entry that isn't visible.
     before: u32,
-    /// The byte offset of what refers to them.
+    /// The byte offset of the definition that refers to them.
     place: usize,
 }
 
@@ -257,7 +257,7 @@ impl<'s, 'a> Scope<'s, 'a> {
         self.all.count(self.number, self.before, space)
     }
 
-    /// Returns what an index is.
+    /// Returns the definition of an index.
     ///
     /// # Errors
     ///
@@ -268,7 +268,7 @@ impl<'s, 'a> Scope<'s, 'a> {
         Ok(Definition::new(self.all, number))
     }
 
-    /// Returns what an index is in the end, as [`Definition::resolve`] does.
+    /// Returns the definition of an index, followed as [`Definition::resolve`] does.
     ///
     /// # Errors
     ///

@@ -1,17 +1,17 @@
 //! Items of a component as values, which [`list`](crate::list) returns and [`build`] takes.
 //!
-//! Needs the feature `tree`, but for what borrowed items have, too, which needs `walk`: [`Node`]
-//! and what it contains, [`Space`], [`Scope`], [`IndexCounts`], [`Scopes`], [`CanonOf`], and core types
-//! other than those with lists. Import what is used, or `tree` itself, but not `tree::*`, which
-//! would replace std's `Box` by the [`Box`] of this module.
+//! Needs the feature `tree`, except for what borrowed items share, which needs `walk`: [`Node`] and
+//! what it contains, [`Space`], [`Scope`], [`IndexCounts`], [`Scopes`], [`CanonOf`], and core types
+//! without lists. Import what is used, or `tree` itself, but not `tree::*`, which would replace
+//! std's `Box` by the [`Box`] of this module.
 //!
 //! They own their strings and lists in std's `String` and `Vec`.
 //!
-//! Types that were read are at most 100 deep. A tree that is made by hand may be deeper, and what
-//! copies, compares, encodes, prints or drops it, or visits its indices, takes stack for each type
-//! in another: types 1,000 deep fit in 8 MiB, also where the code isn't optimized. Where it is,
-//! each takes up to 2 kB if a [`Node`] is printed, and otherwise up to 700 bytes. A tree that is
-//! too deep for the stack ends the process.
+//! Types that were read are at most 100 deep. A tree that a program makes may be deeper. Copying,
+//! comparing, encoding, printing or dropping it, and visiting its indices, take stack for each
+//! nested type: 1,000 fit in 8 MiB, also in code that isn't optimized. In optimized code, each
+//! takes up to 2 kB if a [`Node`] is printed, and otherwise up to 700 bytes. A tree that is too
+//! deep for the stack ends the process.
 //!
 //! Core types are those of WebAssembly 3.0, `CoreValType` and others. They convert to the types of
 //! sections with `From`, and from these with `TryFrom`, which fails for what proposals add.
