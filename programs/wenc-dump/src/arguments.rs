@@ -30,14 +30,14 @@ JSON: {\"file\",\"component\" or \"module\",\"fault\"}. Both of these have their
 would write it. The manual page, wenc-dump(1), has all fields.
 ";
 
-/// What the arguments request.
+/// The request of the arguments.
 pub enum Request {
     Help,
     Version,
     Dump(Options),
 }
 
-/// What is printed, and how.
+/// The options and the files.
 #[derive(Default)]
 pub struct Options {
     /// The files, at least one; `-` is standard input.

@@ -9,7 +9,7 @@ use wenc::view::ItemView;
 use wenc::{DebugNames, NamesFault, ProducersFault, ProducersReader};
 
 impl Contents {
-    /// Returns what is reported of a custom section with this name.
+    /// Returns the contents of a custom section with this name.
     pub fn of(name: &str) -> Self {
         match name {
             DebugNames::SECTION => Self::Names,
@@ -18,8 +18,8 @@ impl Contents {
         }
     }
 
-    /// Returns what is reported of a custom section with this name in a core module, where debug
-    /// names are encoded differently.
+    /// Returns the contents of a custom section with this name in a core module, where debug names
+    /// are encoded differently.
     pub fn of_core(name: &str) -> Self {
         if name == ProducersReader::SECTION { Self::Producers } else { Self::Other }
     }
@@ -31,7 +31,7 @@ impl<R: Report> Walk<'_, '_, R> {
         Ok(self.report.close()?)
     }
 
-    /// Reports what a custom section contains, whose data ends at this byte offset.
+    /// Reports the contents of a custom section, whose data ends at this byte offset.
     pub(super) fn custom(&mut self, item: &ItemView, end: usize) -> Result<(), Failure> {
         let ItemView::Custom { name, data } = *item else { return Ok(()) };
         match Contents::of(name) {

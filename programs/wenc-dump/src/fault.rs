@@ -1,7 +1,7 @@
 //! Parts of a file that can't be read.
 
 use super::cause::Cause;
-use super::chain::Misfit;
+use super::sizes::WrongSize;
 use super::wit::Unwritten;
 use super::words::Counted;
 use std::collections::TryReserveError;
@@ -23,12 +23,12 @@ pub enum Fault {
     List(ListFault, Option<Cause>),
     /// A core module, or a section or an item of it, at this byte offset, and why.
     Module(usize, ModuleFault, Option<Cause>),
-    /// A section at this byte offset with this id, which is unknown.
+    /// A section at this byte offset with this unknown id.
     UnknownSection(usize, u8),
     /// A custom section without a name, at this byte offset, and why.
     NoName(usize, Option<Cause>),
     /// A section with a wrong size.
-    Size(Misfit),
+    Size(WrongSize),
     /// The component at this byte offset, which is nested this deep.
     TooDeep(usize, usize),
     /// Debug names, from this byte offset on, and why.
@@ -88,7 +88,7 @@ impl Fault {
             Self::Module(place, _, _)
             | Self::UnknownSection(place, _)
             | Self::NoName(place, _)
-            | Self::Size(Misfit { place, .. })
+            | Self::Size(WrongSize { place, .. })
             | Self::TooDeep(place, _)
             | Self::Names(place, _)
             | Self::Producers(place, _) => Some(place),
@@ -96,7 +96,7 @@ impl Fault {
         }
     }
 
-    /// Returns the words for the part in text, where they follow its byte offset.
+    /// Returns the words for the part, which follow its byte offset in text.
     pub fn words(&self) -> &'static str {
         match (self.unread(), self) {
             (Some(Unread::Count { .. }), _) => "no count",
@@ -115,8 +115,8 @@ impl Fault {
         }
     }
 
-    /// Returns whether all items before the part were read, and none is left.
-    pub fn is_behind_items(&self) -> bool {
+    /// Returns whether the part follows the last item.
+    pub fn is_after_items(&self) -> bool {
         matches!(self.unread(), Some(Unread::Behind { .. }))
     }
 
@@ -184,7 +184,7 @@ impl Display for Fault {
             Self::Module(_, fault, _) => fault.fmt(f),
             Self::UnknownSection(place, id) => write!(f, "unknown section {id} at {place:#x}"),
             Self::NoName(place, _) => write!(f, "custom section without a name at {place:#x}"),
-            Self::Size(Misfit { place, stated, end }) => {
+            Self::Size(WrongSize { place, stated, end }) => {
                 let by = Counted(stated.abs_diff(end), "byte");
                 let longer = if end > stated { "longer" } else { "shorter" };
                 write!(f, "the section at {place:#x} may be {by} {longer}")

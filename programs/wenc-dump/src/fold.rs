@@ -1,7 +1,7 @@
 //! The text of a node: on one line if it fits, else with each part on its own line.
 
 use super::colours::Hue;
-use super::phrase::{is_phrase, spoken};
+use super::phrase::{fields_of, is_phrase};
 use super::text::Text;
 use std::fmt::Display;
 use std::io::{self, Write};
@@ -18,9 +18,8 @@ pub type Names<'a> = &'a [DebugNames];
 /// bits is read from up to 10 bytes, and a character from up to 4.
 const COLUMN: usize = 16;
 
-/// Returns whether the node fits in this many columns. Looks no further than they reach, and not at
-/// all at a node that was read from too many bytes: what is large thus isn't read once for each
-/// level around it.
+/// Returns whether the node fits in this many columns. It isn't read further than that, nor at all
+/// if it was read from too many bytes: so a large node isn't read again for each level around it.
 fn fits(node: &Node, encoded_len: Option<usize>, names: Names, columns: usize) -> bool {
     encoded_len.is_none_or(|len| len / COLUMN <= columns)
         && Text::within(columns, &mut io::sink()).flat(node, names).is_ok()
@@ -191,7 +190,7 @@ impl<W: Write> Text<'_, W> {
         fields: Fields,
         write: impl Fn(&mut Self, &Node) -> io::Result<()>,
     ) -> io::Result<()> {
-        for (at, (words, node)) in spoken(name, fields).enumerate() {
+        for (at, (words, node)) in fields_of(name, fields).enumerate() {
             self.plain(if at == 0 { "" } else { " " })?;
             self.plain(words)?;
             self.plain(if words.is_empty() { "" } else { " " })?;

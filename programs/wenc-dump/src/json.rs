@@ -28,9 +28,9 @@ pub struct Json<'o, W> {
 
 /// The text that closes a part.
 struct Open {
-    /// The text before the byte offset from which on nothing is read; `None` once both are written.
+    /// The text before the byte offset of the part that isn't read; `None` once both are written.
     list: Option<&'static str>,
-    /// Whether the part has a field for it even if all is read.
+    /// Whether the part has a field for that byte offset even if everything is read.
     has_unread: bool,
     /// The text after it.
     object: &'static str,
@@ -136,7 +136,7 @@ impl<'o, W: Write> Json<'o, W> {
         self.put("\"")
     }
 
-    /// Writes what a file or an item is. Returns what closes it.
+    /// Writes the content of a file or an item. Returns the text that closes it.
     fn content(&mut self, range: &Range<usize>, content: &Content) -> io::Result<Open> {
         match content {
             Content::Component(name) => {
@@ -221,7 +221,7 @@ impl<'o, W: Write> Json<'o, W> {
         self.put("}")
     }
 
-    /// Begins the list of what is reported of a custom section. Returns what ends it.
+    /// Begins the list of the contents of a custom section. Returns the text that ends it.
     fn contents(&mut self, contents: Contents) -> io::Result<&'static str> {
         let (front, back) = match contents {
             Contents::Names => (",\"names\":[", "]"),
@@ -233,7 +233,7 @@ impl<'o, W: Write> Json<'o, W> {
     }
 
     /// Begins the lists of a section, which is one of a core module if it has contents. Returns
-    /// what closes them.
+    /// the text that closes them.
     fn items(&mut self, contents: Option<Contents>) -> io::Result<Open> {
         self.put(",\"items\":[")?;
         let list = match contents {
@@ -264,7 +264,7 @@ impl<'o, W: Write> Json<'o, W> {
         }
     }
 
-    /// Writes a part up to its contents. Returns what closes it.
+    /// Writes a part up to its contents. Returns the text that closes it.
     fn front(&mut self, part: &Part) -> io::Result<Open> {
         match part {
             Part::File(range, content) => {

@@ -4,7 +4,6 @@
 
 mod arguments;
 mod cause;
-mod chain;
 mod check;
 mod colours;
 mod custom;
@@ -17,6 +16,7 @@ mod phrase;
 mod report;
 mod run;
 mod select;
+mod sizes;
 mod text;
 mod walk;
 mod wit;

@@ -10,7 +10,7 @@ use wenc_dump::{NO_MEMORY, Streams, Terminal, colours_are_wanted, run};
 /// optimized are larger.
 const STACK: usize = if cfg!(debug_assertions) { 0x28_0000 } else { 0xc_0000 };
 
-/// The other bytes of memory that the program takes before it reads a file.
+/// The other bytes of memory that the program allocates before it reads a file.
 const START: usize = 0x4_0000;
 
 /// Grows the stack to its size, if there is memory for it. Otherwise, a file could take that

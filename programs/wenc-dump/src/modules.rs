@@ -103,7 +103,7 @@ impl<R: Report> Walk<'_, '_, R> {
                 Ok((range, item)) => self.core_item(at, section, range, &item, counts)?,
                 Err(fault) => {
                     let fault = Fault::of_module(at, fault, None);
-                    if !fault.is_behind_items() {
+                    if !fault.is_after_items() {
                         counts.add_unknown();
                     }
                     self.unread(fault, range.end, !are_shown)?;

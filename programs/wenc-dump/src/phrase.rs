@@ -18,7 +18,7 @@ pub fn is_phrase(name: &str) -> bool {
 
 /// Returns the fields that are in the phrase of the struct with this name, with the words before
 /// each. An absent one is left out.
-pub fn spoken<'a>(
+pub fn fields_of<'a>(
     name: &str,
     fields: Fields<'a>,
 ) -> impl Iterator<Item = (&'static str, Node<'a>)> {

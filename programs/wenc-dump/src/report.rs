@@ -44,7 +44,7 @@ pub struct Rest<'a> {
 
 /// A part of a file. Byte offsets are those of the file.
 pub enum Part<'a> {
-    /// The component or the core module that the file is.
+    /// The file, a component or a core module.
     File(Range<usize>, Content<'a>),
     Section {
         /// Its byte offsets, from its id on.
@@ -54,7 +54,7 @@ pub enum Part<'a> {
         word: Option<&'static str>,
         /// The number of its items; `None` if it isn't a section of items, or that can't be read.
         count: Option<u32>,
-        /// What only sections of core modules have.
+        /// The fields of a section of a core module.
         core: Option<Core<'a>>,
     },
     Item {
@@ -69,17 +69,17 @@ pub enum Part<'a> {
     Entry(Entry<'a>),
 }
 
-/// What is reported of a section of a core module besides its items.
+/// The part of a section of a core module that isn't in its items.
 pub struct Core<'a> {
     /// The name of a custom section.
     pub name: Option<&'a str>,
-    /// What is reported of its content.
+    /// The contents that are reported.
     pub contents: Contents,
     /// Its content; empty if its items are reported.
     pub bytes: &'a [u8],
 }
 
-/// What is reported of a custom section.
+/// The contents of a custom section that are reported.
 #[derive(Clone, Copy, PartialEq, Eq)]
 pub enum Contents {
     Names,
@@ -105,7 +105,7 @@ pub struct Label<'a> {
     pub name: Option<&'a str>,
 }
 
-/// What a file or an item is.
+/// The content of a file or an item.
 pub enum Content<'a> {
     /// A component, with its own debug name, whose sections are reported.
     Component(Option<&'a str>),

@@ -95,7 +95,7 @@ fn dump(
 ) -> io::Result<()> {
     for file in &options.files {
         let mut kept = Kept::default();
-        let tell = &mut |fault: &Fault| {
+        let on_fault = &mut |fault: &Fault| {
             *status = fault.status().max(*status);
             let is_kept = options.json && kept.add(format_args!("{}: {fault}\n", Escaped(file)));
             if !is_kept {
@@ -103,15 +103,15 @@ fn dump(
             }
         };
         let done = if options.wit {
-            wit(streams.out, file, streams.input, tell)
+            wit(streams.out, file, streams.input, on_fault)
         } else if options.json {
             let mut json = Json::new(streams.out, options.hex);
             let mut json = Selected::new(&mut json, &options.sections);
-            report(&mut json, (file, options.check), streams.input, tell)
+            report(&mut json, (file, options.check), streams.input, on_fault)
         } else {
             let mut text = Text::new(streams.out, Style::of(options, terminal));
             let mut text = Selected::new(&mut text, &options.sections);
-            report(&mut text, (file, options.check), streams.input, tell)
+            report(&mut text, (file, options.check), streams.input, on_fault)
         };
         if !kept.0.is_empty() {
             complain(streams.err, format_args!("{}", kept.0));
@@ -166,17 +166,17 @@ fn bytes_of(file: &OsStr, input: &mut impl Read) -> io::Result<Vec<u8>> {
     Ok(bytes)
 }
 
-/// Prints the world of a component, as WIT, and passes on each fault.
+/// Prints the world of a component, as WIT, and calls `on_fault` with each fault.
 fn wit(
     out: &mut impl Write,
     file: &OsStr,
     input: &mut impl Read,
-    tell: &mut dyn FnMut(&Fault),
+    on_fault: &mut dyn FnMut(&Fault),
 ) -> io::Result<()> {
     let bytes = match bytes_of(file, input) {
         Ok(bytes) => bytes,
         Err(error) => {
-            tell(&Fault::of_input(error));
+            on_fault(&Fault::of_input(error));
             return Ok(());
         }
     };
@@ -196,20 +196,20 @@ fn wit(
     Ok(())
 }
 
-/// Reports a file, with indices that are out of range if `has_check`, and passes on each fault.
+/// Reports a file, with indices out of range if `has_check`, and calls `on_fault` with each fault.
 fn report(
     report: &mut impl Report,
     (file, has_check): (&OsStr, bool),
     input: &mut impl Read,
-    tell: &mut dyn FnMut(&Fault),
+    on_fault: &mut dyn FnMut(&Fault),
 ) -> io::Result<()> {
     let mut first = None;
-    let tell = &mut |fault| {
-        tell(&fault);
+    let on_fault = &mut |fault| {
+        on_fault(&fault);
         first.get_or_insert(fault);
     };
     report.begin(file)?;
-    let fault = match bytes_of(file, input).map(|bytes| walk(&bytes, has_check, report, tell)) {
+    let fault = match bytes_of(file, input).map(|bytes| walk(&bytes, has_check, report, on_fault)) {
         Err(error) => Some(Fault::of_input(error)),
         Ok(Err(Failure::NoMemory)) => Some(Fault::NoMemory),
         Ok(Err(Failure::Write(error))) => return Err(error),
@@ -217,7 +217,7 @@ fn report(
     };
     // the report up to a fault precedes its message
     report.flush()?;
-    fault.into_iter().for_each(tell);
+    fault.into_iter().for_each(on_fault);
     report.end(first.as_ref())?;
     report.flush()
 }

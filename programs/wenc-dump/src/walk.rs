@@ -1,11 +1,11 @@
 //! Walks through a file, part by part.
 
 use super::cause::{self, Cause};
-use super::chain::{Misfit, misfit};
 use super::check::{Check, node_in};
 use super::fault::{Failure, Fault};
 use super::phrase;
 use super::report::{Content, Contents, Label, Part, Report, Rest};
+use super::sizes::{WrongSize, wrong_size};
 use super::words;
 use std::io;
 use std::ops::Range;
@@ -22,11 +22,11 @@ pub struct Walk<'f, 'r, R> {
     pub(super) bytes: &'f [u8],
     pub(super) report: &'r mut R,
     /// The function to call with each fault.
-    tell: &'r mut dyn FnMut(Fault),
+    on_fault: &'r mut dyn FnMut(Fault),
     /// The debug names of the components around the next part, the outermost first.
     names: Vec<DebugNames>,
-    /// Whether the next part is in a section with a wrong size, whose own fault is passed on.
-    is_in_misfit: bool,
+    /// Whether the next part is in a section with a wrong size, whose other faults are ignored.
+    is_in_wrong_size: bool,
     check: Check,
 }
 
@@ -43,8 +43,8 @@ pub(super) fn label<'a>(
     Label { space, from, count, name }
 }
 
-/// Reports the component or the core module with these bytes, and passes on its faults, with those
-/// of the check of indices if that is wanted. Before each, the report is written up to it.
+/// Reports the component or the core module with these bytes, and calls `on_fault` with its faults,
+/// with those of the check of indices if `has_check`. Before each, the report is written up to it.
 ///
 /// # Errors
 ///
@@ -53,10 +53,11 @@ pub fn walk(
     bytes: &[u8],
     has_check: bool,
     report: &mut impl Report,
-    tell: &mut dyn FnMut(Fault),
+    on_fault: &mut dyn FnMut(Fault),
 ) -> Result<(), Failure> {
     let check = Check::new(has_check);
-    let mut walk = Walk { bytes, report, tell, names: Vec::new(), is_in_misfit: false, check };
+    let mut walk =
+        Walk { bytes, report, on_fault, names: Vec::new(), is_in_wrong_size: false, check };
     if let Ok(sections) = CoreSections::new(bytes) {
         walk.report.open(&Part::File(0..bytes.len(), Content::Module))?;
         walk.core_sections(0..bytes.len(), sections)?;
@@ -78,18 +79,18 @@ impl<'f, R: Report> Walk<'f, '_, R> {
     /// read.
     fn note(&mut self, section: u8, fault: &Fault) {
         match (self.check.counts.last_mut(), section.try_into()) {
-            (Some(counts), Ok(section)) if !fault.is_behind_items() => counts.add_unread(section),
+            (Some(counts), Ok(section)) if !fault.is_after_items() => counts.add_unread(section),
             (Some(counts), Err(_)) => counts.add_unknown(),
             _ => {}
         }
     }
 
-    /// Passes on a fault, after writing what comes before it, unless it is in a section with a
+    /// Calls `on_fault` after writing the report so far, unless the fault is in a section with a
     /// wrong size.
     fn fault(&mut self, fault: Fault) -> io::Result<()> {
-        if !self.is_in_misfit {
+        if !self.is_in_wrong_size {
             self.report.flush()?;
-            (self.tell)(fault);
+            (self.on_fault)(fault);
         }
         Ok(())
     }
@@ -117,7 +118,7 @@ impl<'f, R: Report> Walk<'f, '_, R> {
         Fault::List(fault, cause::of_header(place, found, &self.bytes[place..end]))
     }
 
-    /// Reports the component that the file is.
+    /// Reports the file, a component.
     fn component(&mut self, sections: Sections<'f>) -> Result<(), Failure> {
         let names = names_of(sections)?;
         let range = 0..self.bytes.len();
@@ -142,9 +143,10 @@ impl<'f, R: Report> Walk<'f, '_, R> {
         self.check.counts.try_reserve(1)?;
         self.check.counts.push(IndexCounts::default());
         let bytes = &self.bytes[..end];
-        let misfit = sections.offset().map_or(Ok(None), |from| misfit(bytes, from))?;
-        self.sections_to(sections, end, misfit)?;
-        if let Some(behind) = misfit.and_then(|misfit| Sections::at(bytes, misfit.end)) {
+        let wrong_size = sections.offset().map_or(Ok(None), |from| wrong_size(bytes, from))?;
+        self.sections_to(sections, end, wrong_size)?;
+        if let Some(behind) = wrong_size.and_then(|wrong_size| Sections::at(bytes, wrong_size.end))
+        {
             self.sections_to(behind, end, None)?;
         }
         self.check.counts.pop();
@@ -158,17 +160,17 @@ impl<'f, R: Report> Walk<'f, '_, R> {
         &mut self,
         mut sections: Sections<'f>,
         end: usize,
-        misfit: Option<Misfit>,
+        wrong_size: Option<WrongSize>,
     ) -> Result<(), Failure> {
         let mut here = sections;
         while let Some(section) = sections.next() {
             let frame = here.next_raw();
             let start = frame.as_ref().map(|(range, _)| range.start);
-            let is_in_misfit = self.is_in_misfit;
-            let misfit = misfit.filter(|misfit| start == Some(misfit.place));
-            if let Some(misfit) = misfit {
-                self.fault(Fault::Size(misfit))?;
-                self.is_in_misfit = true;
+            let is_in_wrong_size = self.is_in_wrong_size;
+            let wrong_size = wrong_size.filter(|wrong_size| start == Some(wrong_size.place));
+            if let Some(wrong_size) = wrong_size {
+                self.fault(Fault::Size(wrong_size))?;
+                self.is_in_wrong_size = true;
             }
             match (section, frame) {
                 (Ok(section), _) => self.section(section)?,
@@ -178,8 +180,8 @@ impl<'f, R: Report> Walk<'f, '_, R> {
                     sections = here;
                 }
             }
-            self.is_in_misfit = is_in_misfit;
-            if misfit.is_some() {
+            self.is_in_wrong_size = is_in_wrong_size;
+            if wrong_size.is_some() {
                 break;
             }
         }
@@ -253,7 +255,7 @@ impl<'f, R: Report> Walk<'f, '_, R> {
         Ok(self.report.close()?)
     }
 
-    /// Reports the indices of an item at this byte offset that are out of range, if that is wanted.
+    /// Reports the indices of an item at this byte offset that are out of range, if wanted.
     fn check_item(&mut self, place: usize, item: &ItemView) -> io::Result<()> {
         let Some(scopes) = self.check.scopes() else { return Ok(()) };
         let mut found = 0;

@@ -14,7 +14,7 @@ const TRIES: usize = 16;
 
 /// A section with a wrong size: with another one, the sections after it reach the end.
 #[derive(Clone, Copy, Debug, PartialEq, Eq)]
-pub struct Misfit {
+pub struct WrongSize {
     /// The byte offset of its id.
     pub place: usize,
     /// The byte offset of its end by its size.
@@ -81,7 +81,7 @@ fn reaching(bytes: &[u8], from: usize) -> Result<Vec<bool>, Failure> {
 /// # Errors
 ///
 /// Fails if an allocation fails, of up to a byte for each byte from there on.
-pub fn misfit(bytes: &[u8], from: usize) -> Result<Option<Misfit>, Failure> {
+pub fn wrong_size(bytes: &[u8], from: usize) -> Result<Option<WrongSize>, Failure> {
     let next = |place: &usize| content(bytes, *place).map(|content| content.end);
     let last = iter::successors(Some(from), next).last().unwrap_or(from);
     if last == bytes.len() {
@@ -95,14 +95,17 @@ pub fn misfit(bytes: &[u8], from: usize) -> Result<Option<Misfit>, Failure> {
             let ends = ends.flatten().filter(move |end| (start..=bytes.len()).contains(end));
             ends.map(move |end| (stated, end))
         });
-        sizes.map(move |(stated, end)| Misfit { place, stated, end })
+        sizes.map(move |(stated, end)| WrongSize { place, stated, end })
     };
-    let is_likely = |misfit: &Misfit| {
-        let goes_on =
-            if misfit.end == bytes.len() { !is_cut } else { whole(bytes, misfit.end).is_some() };
-        goes_on && !is_filled(bytes, misfit.place)
+    let is_likely = |wrong_size: &WrongSize| {
+        let goes_on = if wrong_size.end == bytes.len() {
+            !is_cut
+        } else {
+            whole(bytes, wrong_size.end).is_some()
+        };
+        goes_on && !is_filled(bytes, wrong_size.place)
     };
     let all = iter::successors(Some(from), next).flat_map(near);
-    let mut reaching = all.filter(|misfit| reaching[misfit.end - from]).take(TRIES);
+    let mut reaching = all.filter(|wrong_size| reaching[wrong_size.end - from]).take(TRIES);
     Ok(reaching.find(is_likely))
 }
