@@ -8,8 +8,8 @@
 //! The module imports nothing. Values are numbers, characters and booleans, each of which is one
 //! core value, so that no function needs the module's memory; strings and lists would need
 //! `CanonicalOption::Memory` and `Realloc`, and an encoding of strings. Nothing is checked here: a
-//! validator finds out whether the module has these functions, with the core types that the
-//! signatures require.
+//! validator can check that the module has these functions, with the core types that the signatures
+//! require.
 
 use wenc::PrimitiveValType as Primitive;
 use wenc::{ComponentBuilder, ComponentExportKind, ComponentValType, ExportKind, ModuleArg};
@@ -74,7 +74,7 @@ pub fn componentize(module: &[u8], signatures: &[Signature<'_>]) -> Vec<u8> {
         let function = builder.lift_func(Some(name), core, ty, []);
         builder.export(*name, ComponentExportKind::Func, function, None);
     }
-    // for readers of the component and of its traces
+    // for readers of the component and of stack traces
     builder.append_names();
     builder.finish()
 }

@@ -1,4 +1,4 @@
-//! Makes one component from two: the first exports what the second imports, and the whole exports
+//! Makes one component from two: the first exports what the second imports, and the result exports
 //! what the second does:
 //!
 //! ```sh
@@ -19,7 +19,7 @@ fn all<T>(items: impl Iterator<Item = Result<T, ListFault>>) -> Result<Vec<T>, S
     items.collect::<Result<_, _>>().map_err(|fault| fault.to_string())
 }
 
-/// Returns the component of both, or what is wrong with them.
+/// Returns the component of both, or why they don't fit together.
 pub fn compose(provider: &[u8], consumer: &[u8]) -> Result<Vec<u8>, String> {
     let (provided, consumed) = (sections(provider)?, sections(consumer)?);
     if let Some((import, _)) = all(provided.imports())?.first() {
@@ -86,7 +86,7 @@ mod tests {
     }
 
     #[test]
-    fn what_is_missing_is_told() {
+    fn missing_imports_are_errors() {
         assert_eq!(compose(CONSUMER, PROVIDER), Err("the provider imports i".into()));
         let empty = b"\0asm\x0d\0\x01\0";
         assert_eq!(compose(empty, CONSUMER), Err("nothing provides i".into()));

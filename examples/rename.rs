@@ -4,8 +4,8 @@
 //! cargo run -r --features tree --example rename -- COMPONENT OLD NEW OUT
 //! ```
 //!
-//! All else stays the same byte for byte, including padded numbers: only the import, and the size
-//! and the count of its section, are encoded again. Whether the new name is valid isn't checked.
+//! Everything else stays the same byte for byte, including padded numbers: only the import, and the
+//! size and the count of its section, are encoded again. The new name isn't checked.
 
 use std::error::Error;
 use wenc::view::{ItemView, NameView};
@@ -38,7 +38,7 @@ fn with_renamed(
     Ok(is_renamed.then_some(imports))
 }
 
-/// Returns the component with the import renamed, or what is wrong with it.
+/// Returns the component with the import renamed, or why it can't be.
 pub fn rename(component: &[u8], old: &str, new: &str) -> Result<Vec<u8>, Box<dyn Error>> {
     let mut renamed = Component::new();
     let mut is_found = false;
@@ -77,7 +77,7 @@ mod tests {
     use super::*;
 
     #[test]
-    fn all_but_the_import_stands_as_before() {
+    fn everything_but_the_import_is_unchanged() {
         let header = b"\0asm\x0d\0\x01\0";
         // A resource `a`, and a `b` equal to it, by a padded index; both sizes are padded.
         let imports = b"\x0a\x8d\0\x02\0\x01a\x03\x01\0\x01b\x03\0\x80\0";

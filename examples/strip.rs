@@ -4,8 +4,8 @@
 //! cargo run -r --features walk --example strip -- COMPONENT OUT
 //! ```
 //!
-//! Nested components lose theirs too; all else stays the same byte for byte. `Sections` reads the
-//! component section by section, and the sections to keep are appended to a `Component`.
+//! Nested components lose theirs too; everything else stays the same byte for byte. `Sections`
+//! reads the component section by section, and the other sections are appended to a `Component`.
 
 use wenc::{Component, ComponentSectionId, ListFault, NestedComponentBytes, Sections};
 
@@ -55,7 +55,7 @@ mod tests {
     }
 
     #[test]
-    fn what_is_kept_is_kept_as_it_stands() {
+    fn other_sections_are_copied() {
         let header = b"\0asm\x0d\0\x01\0";
         let module = [b"\x01\xc8\x01", [7; 200].as_slice()].concat();
         // The size has one byte of padding.

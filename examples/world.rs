@@ -20,11 +20,11 @@ use wenc::PrimitiveValType as Primitive;
 use wenc::{ComponentBuilder, ComponentDefinedTypeEncoder, ComponentExportKind, ComponentType};
 use wenc::{ComponentTypeRef, ComponentValType, CustomSection, Section};
 
-/// The rest of a description, which is split into words and signs.
+/// The rest of a description, which is split into tokens.
 struct Reader<'a>(&'a str);
 
 impl<'a> Reader<'a> {
-    /// Returns the next word, `->`, or other sign, which is empty at the end.
+    /// Returns the next word, `->` or other character; empty at the end.
     fn next(&mut self) -> &'a str {
         let rest = self.0.trim_start();
         let is_word = |letter: char| letter.is_ascii_alphanumeric() || letter == '-';
@@ -52,7 +52,7 @@ impl<'a> Reader<'a> {
         if self.is(token) { Ok(()) } else { Err(format!("no {token} before {}", self.0.trim())) }
     }
 
-    /// Parses members between signs, separated by commas.
+    /// Parses members between brackets, separated by commas.
     fn list<T>(
         &mut self,
         (open, close): (&str, &str),
@@ -144,7 +144,7 @@ fn write(
 /// in the package.
 pub fn encode(description: &str) -> Result<(&str, Vec<u8>), String> {
     let package = description.trim_start().strip_prefix("package ").ok_or("no package")?;
-    let (package, rest) = package.split_once(';').ok_or("no ; behind the package")?;
+    let (package, rest) = package.split_once(';').ok_or("no ; after the package")?;
     let mut reader = Reader(rest);
     reader.expect("world")?;
     let name = reader.next();
@@ -227,7 +227,7 @@ mod tests {
     }
 
     #[test]
-    fn what_is_wrong_is_told() {
+    fn invalid_descriptions_are_rejected() {
         for text in [
             "",
             "package a:b",
