@@ -145,9 +145,8 @@ impl<'f, R: Report> Walk<'f, '_, R> {
         let bytes = &self.bytes[..end];
         let wrong_size = sections.offset().map_or(Ok(None), |from| wrong_size(bytes, from))?;
         self.sections_to(sections, end, wrong_size)?;
-        if let Some(behind) = wrong_size.and_then(|wrong_size| Sections::at(bytes, wrong_size.end))
-        {
-            self.sections_to(behind, end, None)?;
+        if let Some(rest) = wrong_size.and_then(|wrong_size| Sections::at(bytes, wrong_size.end)) {
+            self.sections_to(rest, end, None)?;
         }
         self.check.counts.pop();
         self.names.pop();

@@ -69,7 +69,7 @@ fn causes_in_long_items_are_those_in_short_ones() {
             assert!(wanted.0 == *from_end && !wanted.1.is_empty(), "{member:02x?}: {wanted:02x?}");
             for number in [130, 400, 20_000] {
                 let long = list_of(tag, number, member);
-                // in a type of an instance, behind a handle
+                // in an instance type, after a handle
                 let nested = [b"\x42\x02\x01\x68\0\x01", &long[..]].concat();
                 for item in [long, nested] {
                     assert_eq!(cause_from_end(7, item, *from_end, 0x41), wanted, "{member:02x?}");
@@ -186,7 +186,7 @@ const KINDS: [(&[u8], &str); 12] = [
         b"\x09\x08\xff\xff\xff\xff\x1f\0\0\0",
         "bad item 0 at 0xa in the section at 0x8: the number at 0xa has more than 32 bits",
     ),
-    // an unknown section; bytes behind items; more items than there are
+    // an unknown section; bytes after the last item; more items than there are
     (b"\x0c\x01\0", "unknown section 12 at 0x8"),
     (b"\x06\x02\0\0", "bytes behind the last item at 0xb in the section at 0x8"),
     (

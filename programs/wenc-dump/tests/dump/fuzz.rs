@@ -18,7 +18,7 @@ impl Random {
     }
 
     fn byte(&mut self) -> u8 {
-        // Few bytes mean something.
+        // Most meaningful bytes are small.
         if self.below(2) == 0 { self.below(0x13) as u8 } else { self.below(0x100) as u8 }
     }
 
@@ -62,7 +62,7 @@ fn parts() -> (Vec<Vec<u8>>, Vec<Vec<u8>>) {
     (small, parts)
 }
 
-/// Whether all of a custom section is read.
+/// Returns whether a custom section can be read.
 fn is_custom_read(item: &ItemView) -> bool {
     match item {
         ItemView::Custom { name: DebugNames::SECTION, .. } => DebugNames::new().read(item).is_ok(),
@@ -73,7 +73,7 @@ fn is_custom_read(item: &ItemView) -> bool {
     }
 }
 
-/// Whether all of the core module with these bytes is read.
+/// Returns whether the core module with these bytes can be read.
 fn is_module_read(bytes: &[u8]) -> bool {
     let is_read = |section: CoreSection| {
         let has_tools = section.name == Some(ProducersReader::SECTION);
@@ -84,7 +84,7 @@ fn is_module_read(bytes: &[u8]) -> bool {
     CoreSections::new(bytes).is_ok_and(|mut sections| sections.all(|it| it.is_ok_and(is_read)))
 }
 
-/// Whether all of the component with these bytes is read, which is this deep in others.
+/// Returns whether the component with these bytes, which is this deep in others, can be read.
 fn is_component_read(bytes: &[u8], depth: usize) -> bool {
     let is_read = |section: SectionReader| {
         section.items().all(|item| match item {
@@ -98,8 +98,8 @@ fn is_component_read(bytes: &[u8], depth: usize) -> bool {
     depth < 100 && sections.is_ok_and(|mut sections| sections.all(|it| it.is_ok_and(is_read)))
 }
 
-/// The messages for the bytes agree with the fault of `list`.
-fn is_so(bytes: &[u8]) -> u8 {
+/// Checks that the messages for the bytes agree with the fault of `list`. Returns the exit status.
+fn check(bytes: &[u8]) -> u8 {
     let is_read = is_component_read(bytes, 0);
     let (status, out, err) = dump(&[], bytes);
     assert_eq!((status, err.is_empty()), (u8::from(!is_read), is_read), "{err}{bytes:02x?}");
@@ -112,9 +112,9 @@ fn is_so(bytes: &[u8]) -> u8 {
     assert_eq!(json.at("fault") == &Value::Null, is_read, "{bytes:02x?}");
     let Err(fault) = list(bytes) else { return status };
     let (part, end) = part_of(bytes, fault);
-    let Value::Object(told) = json.at("fault") else { panic!("{fault}") };
-    let is_same = told["place"] == Value::Number(part as u128);
-    if let Some(cause) = told.get("cause").filter(|_| is_same) {
+    let Value::Object(fields) = json.at("fault") else { panic!("{fault}") };
+    let is_same = fields["place"] == Value::Number(part as u128);
+    if let Some(cause) = fields.get("cause").filter(|_| is_same) {
         let place = cause.at("place").number() as usize;
         assert!(part <= place && place <= end, "{err}{bytes:02x?}");
     }
@@ -135,12 +135,12 @@ fn damaged_components() {
         random.damaged(bytes)
     };
     let damaged: Vec<_> = (0..COMPONENTS).map(&mut damaged).collect();
-    let statuses = side_by_side(COMPONENTS, |number| usize::from(is_so(&damaged[number])));
+    let statuses = side_by_side(COMPONENTS, |number| usize::from(check(&damaged[number])));
     let bad: usize = statuses.into_iter().sum();
     assert!(bad > COMPONENTS / 2 && bad < COMPONENTS, "{bad}");
 }
 
-/// Each kind of item, cut at each byte, at the end of the component and with bytes behind.
+/// Each kind of item, cut at each byte, at the end of the component and with bytes after it.
 #[test]
 fn cut_items() {
     let (_, parts) = parts();
@@ -160,8 +160,8 @@ fn cut_items() {
         }
         kinds[id] += 1;
         for len in 1..=section.len() {
-            for behind in [0, 300] {
-                is_so(&component(&[&section[..len], &vec![0; behind]].concat()));
+            for after in [0, 300] {
+                check(&component(&[&section[..len], &vec![0; after]].concat()));
             }
         }
     }

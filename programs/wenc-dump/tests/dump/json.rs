@@ -62,8 +62,8 @@ fn items_are_as_serde_would_write_them() {
     for (is, wanted) in items.iter().zip(wanted) {
         assert!(is.starts_with(wanted), "{is}");
     }
-    let behind = r#""external_id":"id"}},"kind":"Func","index":0,"ty":{"Func":7}}}"#;
-    assert!(items[4].contains(behind), "{out}");
+    let end = r#""external_id":"id"}},"kind":"Func","index":0,"ty":{"Func":7}}}"#;
+    assert!(items[4].contains(end), "{out}");
     assert!(items[7].contains(r#""memory64":false,"shared":false}}}}]}"#), "{out}");
     assert!(items[8].contains(r#"{"Func":{"params":["I32"],"results":[]}}}}}"#), "{out}");
     let declared = r#",{"Decl":{"Type":{"Defined":{"List":{"Primitive":"U8"}}}}}]}"#;

@@ -118,7 +118,7 @@ fn many_debug_names() {
     expect_refusals(&file_of("limits_names", &bytes), 10);
 }
 
-/// To find its cause, the bytes behind a fault are copied.
+/// To find a wrong size, there is memory for each byte after the fault.
 #[test]
 fn a_fault_before_many_bytes() {
     let imports = [&b"\x01\0\x01f\x09"[..], &[0; 1 << 20]].concat();

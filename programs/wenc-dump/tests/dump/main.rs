@@ -103,8 +103,8 @@ fn expect(sections: &[u8], out: &str, messages: &str) {
 /// Checks what is printed of these bytes, and the messages, a line for each.
 fn expect_of(options: &[&str], bytes: &[u8], out: &str, messages: &str) {
     let err: String = messages.lines().map(|message| format!("-: {message}\n")).collect();
-    let (status, printed, told) = dump(options, bytes);
-    assert_eq!((printed.as_str(), told.as_str()), (out, err.as_str()));
+    let (status, printed, reported) = dump(options, bytes);
+    assert_eq!((printed.as_str(), reported.as_str()), (out, err.as_str()));
     assert_eq!(status, u8::from(!err.is_empty()), "{err}");
 }
 

@@ -24,7 +24,7 @@ fn run(arguments: &[&str], input: &[u8]) -> Output {
     child.wait_with_output().expect("it ends")
 }
 
-/// The program has this status, prints this and says that.
+/// Checks the exit status and what the program writes to standard output and standard error.
 fn expect_run(arguments: &[&str], input: &[u8], (status, out, err): (i32, &str, &str)) {
     let output = run(arguments, input);
     assert_eq!(String::from_utf8_lossy(&output.stdout), out, "{arguments:?}");
@@ -55,7 +55,7 @@ const KINDS: &str = "custom, core-module, core-instance, core-type, component, i
     code, data, data-count, tag";
 
 #[test]
-fn the_words_for_sections_are_told() {
+fn the_words_for_sections_are_listed() {
     for kind in ["imports", "256", "", "core"] {
         let said = format!(
             "wenc-dump: no value of --section: {kind}\nit takes an id, or one of {KINDS}\n{USAGE}"
@@ -319,8 +319,8 @@ fn a_reader_that_leaves_ends_it_quietly() {
     for (options, len) in [(&[][..], FUNCTION_TEXT.len()), (&["--json"], 400)] {
         for room in 0..len {
             let mut out = Left(room);
-            let told = run_into(&mut out, options, &component(FUNCTION), Terminal::default());
-            assert_eq!(told, (0, String::new()), "{room}");
+            let result = run_into(&mut out, options, &component(FUNCTION), Terminal::default());
+            assert_eq!(result, (0, String::new()), "{room}");
         }
     }
 }

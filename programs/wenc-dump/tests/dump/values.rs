@@ -14,7 +14,7 @@ pub enum Value {
 }
 
 impl Value {
-    /// The value that all of this line is.
+    /// Parses a line, which is one value.
     pub fn read(text: &str) -> Self {
         let mut rest = text.strip_suffix('\n').expect("it is a line");
         let value = value(&mut rest);
@@ -44,11 +44,11 @@ impl Value {
     }
 }
 
-/// Takes this from the front, if it is there.
+/// Removes this prefix, and returns whether it was there.
 fn take(rest: &mut &str, front: &str) -> bool {
-    let behind = rest.strip_prefix(front);
-    *rest = behind.unwrap_or(rest);
-    behind.is_some()
+    let after = rest.strip_prefix(front);
+    *rest = after.unwrap_or(rest);
+    after.is_some()
 }
 
 fn value(rest: &mut &str) -> Value {
@@ -61,8 +61,8 @@ fn value(rest: &mut &str) -> Value {
         '{' => Value::Object(object(members(rest, "{", "}", field))),
         _ => {
             let digits = rest.find(|letter: char| !letter.is_ascii_digit()).unwrap_or(rest.len());
-            let (number, behind) = rest.split_at(digits);
-            *rest = behind;
+            let (number, after) = rest.split_at(digits);
+            *rest = after;
             Value::Number(number.parse().expect("it is a number"))
         }
     }
@@ -95,7 +95,7 @@ fn field(rest: &mut &str) -> (String, Value) {
     (key, value(rest))
 }
 
-/// Fields, of which no two have one key.
+/// An object from fields with different keys.
 fn object(fields: Vec<(String, Value)>) -> BTreeMap<String, Value> {
     let len = fields.len();
     let fields: BTreeMap<String, Value> = fields.into_iter().collect();
@@ -121,7 +121,7 @@ fn text(rest: &mut &str) -> String {
     }
 }
 
-/// What is escaped, of what this crate escapes.
+/// Returns the character of an escape sequence that this crate writes.
 fn escaped(rest: &mut &str) -> char {
     for letter in ['"', '\\'] {
         if take(rest, letter.encode_utf8(&mut [0; 4])) {
@@ -129,8 +129,8 @@ fn escaped(rest: &mut &str) -> char {
         }
     }
     assert!(take(rest, "u"), "{rest}");
-    let (digits, behind) = rest.split_at(4);
-    *rest = behind;
+    let (digits, after) = rest.split_at(4);
+    *rest = after;
     let number = u32::from_str_radix(digits, 16).expect("they are digits");
     char::from_u32(number).expect("it is no surrogate")
 }

@@ -68,8 +68,8 @@ pub fn are_read_by_shells(program: &str) {
     for (shell, path) in paths(program) {
         match Command::new(shell).arg("-n").arg(&path).output() {
             Ok(output) => {
-                let told = String::from_utf8_lossy(&output.stderr);
-                assert!(output.status.success() && told.is_empty(), "{shell}: {told}");
+                let err = String::from_utf8_lossy(&output.stderr);
+                assert!(output.status.success() && err.is_empty(), "{shell}: {err}");
             }
             Err(fault) => assert_eq!(fault.kind(), ErrorKind::NotFound, "{shell}"),
         }
