@@ -1,5 +1,5 @@
-/* Makes each call that example.c doesn't, and hands in what is refused as a bad argument. It prints
- * how many items there are in each space, and the component. */
+/* Makes the calls that example.c doesn't, also with bad arguments. Prints the number of items in
+ * each space, and the component. */
 #include <stdio.h>
 #include <stdlib.h>
 #include <string.h>
@@ -16,7 +16,7 @@ static void check(enum wenc_status status) {
   }
 }
 
-/* A debug name, until the next one. */
+/* Returns a debug name, valid until the next call. */
 static const wenc_text *named(const char *literal) {
   static wenc_text name;
   name.at = literal;
@@ -42,7 +42,7 @@ static void build_instances(wenc_handle *builder) {
   check(wenc_core_instantiate(builder, named("main"), 0, ALL(args), &index));
 }
 
-/* The types of which the others are made have the indices 2 and 9. */
+/* The types that the others refer to have the indices 2 and 9. */
 static void build_values(wenc_handle *builder) {
   static const wenc_part cases[] = {{WENC_TEXT("none"), WENC_REF_NONE, 0},
                                     {WENC_TEXT("number"), WENC_REF_PRIMITIVE, WENC_U32},
@@ -75,7 +75,7 @@ static void build_values(wenc_handle *builder) {
   if (own != 2 || list != 9) exit(1);
 }
 
-/* The answer is the type of its functions. */
+/* Returns the index of the type of its functions. */
 static uint32_t build_functions(wenc_handle *builder) {
   static const wenc_part params[] = {{WENC_TEXT("path"), WENC_REF_PRIMITIVE, WENC_STRING}};
   static const wenc_pair lifting[] = {{WENC_OPTION_UTF8, 0},    {WENC_OPTION_MEMORY, 0},
@@ -115,7 +115,7 @@ static void build_components(wenc_handle *builder) {
   check(wenc_alias_outer(builder, named("o"), WENC_OUTER_COMPONENT, 2, 3, &index));
 }
 
-/* `ty` is the type of the function 0. */
+/* `ty` is the index of the type of function 0. */
 static void build_named(wenc_handle *builder, uint32_t ty) {
   static const uint32_t args[] = {0, 1};
   static const uint8_t data[] = {1, 2, 3};
@@ -150,7 +150,7 @@ static void print_counts(wenc_handle *builder) {
   putchar('\n');
 }
 
-/* No number stands for anything here. */
+/* Each call has a number that is out of range, or a NULL. */
 static void refuse(wenc_handle *builder) {
   static const wenc_pair unnamed[] = {{10, 0}};
   static const wenc_part unknown[] = {{WENC_TEXT("a"), 6, 0}};

@@ -1,6 +1,6 @@
-/* Counts the bytes that the library takes and gives back: what a builder took is given back by
- * wenc_free, or by wenc_component, which gives the nested builder up; also where a call is refused,
- * and where each request for memory is refused in turn.
+/* Counts the bytes that the library allocates and frees: those of a builder are freed by wenc_free,
+ * or by wenc_component, which frees the nested builder; also if a call fails, and if each
+ * allocation fails in turn.
  *
  *     cargo build --profile c -p libwenc
  *     gcc -Wl,--wrap=malloc,--wrap=calloc,--wrap=realloc,--wrap=free c/counted.c target/c/libwenc.a
@@ -13,7 +13,7 @@
 
 /* A debug name. */
 #define NAMED WENC_NAMED("a debug name that is longer than a first growth")
-/* Ends the program where this isn't so. */
+/* Ends the program if a condition is false. */
 #define REQUIRE(what) require((what), #what, __LINE__)
 
 static void require(bool is_so, const char *what, int line) {
@@ -23,7 +23,7 @@ static void require(bool is_so, const char *what, int line) {
   }
 }
 
-/* ---- the allocator. In front of each block stands how long it is. */
+/* ---- the allocator: each block begins with its length */
 
 #define FRONT 16
 
@@ -34,8 +34,8 @@ void *__wrap_calloc(size_t count, size_t len);
 void *__wrap_realloc(void *at, size_t len);
 void __wrap_free(void *at);
 
-/* The bytes that were taken and given back, and the requests that were made; the one with the
- * number `refused` is refused. */
+/* The bytes that were allocated and freed, and the number of allocations; that with the number
+ * `refused` fails. */
 static size_t taken, given, requests, refused;
 
 static bool is_refused(void) { return ++requests == refused; }
@@ -71,7 +71,7 @@ void *__wrap_realloc(void *at, size_t len) {
   return to;
 }
 
-/* The bytes that are held. */
+/* Returns the number of allocated bytes. */
 static size_t held(void) { return taken - given; }
 
 /* ---- builders */
@@ -81,7 +81,7 @@ static const uint8_t bytes[200];
 static const wenc_part parts[] = {{WENC_TEXT("x"), WENC_REF_PRIMITIVE, WENC_S32},
                                   {WENC_TEXT("yyyy"), WENC_REF_VALUE, 0}};
 
-/* The calls that declare a type by a handle, add it, and free the handle. */
+/* Declares a type by a handle, adds it, and frees the handle. */
 static uint32_t declare(wenc_handle *to) {
   wenc_handle types = {NULL};
   uint32_t index, status = wenc_types_new(&types, WENC_INSTANCE);
@@ -93,7 +93,7 @@ static uint32_t declare(wenc_handle *to) {
   return status;
 }
 
-/* The same of a type of modules. */
+/* The same with a module type. */
 static uint32_t declare_module(wenc_handle *to) {
   static const wenc_pair params[] = {{WENC_CORE_I32, 0}, {WENC_CORE_EXTERNREF, 0}};
   static const wenc_entity function = {0, 0, WENC_CORE_FUNC, 0, 0, false, false, false};
@@ -111,7 +111,7 @@ static uint32_t declare_module(wenc_handle *to) {
   return status;
 }
 
-/* The calls that add a section of names by a handle, and free the handle. */
+/* Adds a section of names by a handle, and frees the handle. */
 static uint32_t name(wenc_handle *to) {
   static const wenc_index_name functions[] = {{WENC_TEXT("a name that is long"), 5}};
   wenc_handle names = {NULL};
@@ -123,7 +123,7 @@ static uint32_t name(wenc_handle *to) {
   return status;
 }
 
-/* The calls that read a component, and add its item. */
+/* Reads a component, and adds its item. */
 static uint32_t copy(wenc_handle *to) {
   static const uint8_t component[] = {0x00, 0x61, 0x73, 0x6d, 0x0d, 0x00, 0x01, 0x00,
                                       0x0a, 0x06, 0x01, 0x00, 0x01, 0x66, 0x01, 0x00};
@@ -185,10 +185,10 @@ static uint32_t call(wenc_handle *to, int number) {
   }
 }
 
-/* How many calls were refused for want of memory. */
+/* The number of calls that failed because an allocation failed. */
 static size_t refusals;
 
-/* Whether a status is WENC_DONE; else it is WENC_NO_MEMORY, where a request was refused. */
+/* Returns whether a status is WENC_DONE. Otherwise it is WENC_NO_MEMORY. */
 static bool is_done(uint32_t status) {
   if (status == WENC_DONE) return true;
   REQUIRE(status == WENC_NO_MEMORY && refused != 0 && requests >= refused);
@@ -196,7 +196,7 @@ static bool is_done(uint32_t status) {
   return false;
 }
 
-/* A builder that has an item of each call. One that wants memory is made once more. */
+/* Returns a builder with an item of each call. A call without memory is repeated. */
 static wenc_handle filled(void) {
   wenc_handle builder = {NULL};
   int number;
@@ -207,7 +207,7 @@ static wenc_handle filled(void) {
   return builder;
 }
 
-/* Frees it, and once more, which does nothing. */
+/* Frees it twice: the second time does nothing. */
 static void give_back(wenc_handle *builder) {
   size_t before;
   wenc_free(builder);
@@ -216,7 +216,7 @@ static void give_back(wenc_handle *builder) {
   REQUIRE(builder->at == NULL && given == before);
 }
 
-/* Finishes it, and copies its bytes: neither takes memory. */
+/* Finishes it, and copies its bytes: neither allocates. */
 static void finish(wenc_handle *builder) {
   static uint8_t copy[16384];
   size_t len, before = requests;
@@ -225,7 +225,7 @@ static void finish(wenc_handle *builder) {
   REQUIRE(requests == before);
 }
 
-/* A builder is freed empty, with items, with an item that was refused, and finished. */
+/* A builder is freed empty, with items, after a call that failed, and finished. */
 static void freed(void) {
   wenc_handle builder = {NULL};
   uint32_t index;
@@ -245,8 +245,8 @@ static void freed(void) {
   REQUIRE(held() == 0);
 }
 
-/* What is held of a component once the builder of one in it was given up: as much as where that was
- * borrowed and then freed. */
+/* A component with a nested one whose builder was freed by wenc_component holds as much as one
+ * whose nested builder was borrowed and then freed. */
 static void given_up(void) {
   wenc_handle outer = filled(), nested = filled();
   uint32_t index;
@@ -266,7 +266,7 @@ static void given_up(void) {
   REQUIRE(held() == 0);
 }
 
-/* A nested builder that isn't taken stays as it was. */
+/* A nested builder that isn't accepted stays as it was. */
 static void not_given_up(void) {
   wenc_handle outer = filled(), nested = filled(), none = {NULL};
   uint32_t index;
@@ -288,7 +288,7 @@ static bool says_nothing(const wenc_unread *unread) {
          memcmp(unread->expected, none, sizeof none) == 0;
 }
 
-/* What a listing takes it gives back, also where the bytes are no component's. */
+/* A listing frees what it allocates, also if the bytes aren't a component. */
 static void listed(void) {
   static const uint8_t component[] = {0x00, 0x61, 0x73, 0x6d, 0x0d, 0x00, 0x01, 0x00, 0x0a, 0x06,
                                       0x01, 0x00, 0x01, 0x66, 0x01, 0x00, 0x07, 0x02, 0x01};
@@ -307,7 +307,7 @@ static void listed(void) {
   REQUIRE(held() == 0);
   memset(&unread, 0xee, sizeof unread);
   status = wenc_list(&listing, component, 19, &unread);
-  /* The section's size is two, of which one byte is there. */
+  /* The section's size is two, but only one byte follows. */
   if (status == WENC_BAD_SECTION) {
     REQUIRE(unread.section == 16 && unread.place == 16 && (unread.part | unread.item) == 0);
     REQUIRE(unread.cause == 19 && wenc_fault_text(component, 19, 16, NULL, 0) == 72);
@@ -317,8 +317,8 @@ static void listed(void) {
   REQUIRE(listing.at == NULL && held() == 0);
 }
 
-/* A component of one-byte items, and debug names: what a walk over it takes, which is nothing, and
- * what a listing takes for an item. */
+/* For a component of one-byte items and debug names, a walk allocates nothing; prints the bytes
+ * that a listing holds for an item. */
 #define ITEMS 100000
 
 static void walked(void) {
@@ -348,8 +348,8 @@ static void walked(void) {
   wenc_free(&listing);
 }
 
-/* A component in another, listed; where the nested one isn't taken for want of memory, it is
- * borrowed then, and freed. */
+/* A component in another, listed; if there is no memory to take over the nested one, it is borrowed
+ * and freed. */
 static void worked(void) {
   wenc_handle outer = filled(), nested = filled();
   uint32_t index;
@@ -363,7 +363,7 @@ static void worked(void) {
   listed();
 }
 
-/* Each request is refused in turn, until none is left. One call is refused for each. */
+/* Each allocation fails in turn, until none is left, and one call with it. */
 static void swept(void) {
   size_t n;
   for (n = 1; n < 1000; n++) {

@@ -1,7 +1,6 @@
-/* Declares the type of an instance and that of a component, by handles of their own, and hands in
- * what these refuse; then adds the functions that have options or slots, and two items by their
- * texts. It prints the component that has all these, and then one of core types, with that of a
- * module. */
+/* Declares the type of an instance and that of a component, by handles of their own, also with bad
+ * arguments; then adds the functions that have options or slots, and two items by their bytes.
+ * Prints the component, and then one of core types, with the type of a module. */
 #include <stdio.h>
 #include <stdlib.h>
 #include <string.h>
@@ -19,7 +18,7 @@ static void require(bool so, const char *what) {
 
 #define REQUIRE(so) require(so, #so)
 
-/* A debug name, until the next one. */
+/* Returns a debug name, valid until the next call. */
 static const wenc_text *named(const char *literal) {
   static wenc_text name;
   name.at = literal;
@@ -27,7 +26,7 @@ static const wenc_text *named(const char *literal) {
   return &name;
 }
 
-/* The call is accepted and answers this index. */
+/* Requires that the call succeeds and writes this index. */
 #define ADDS(call, wanted)                             \
   do {                                                 \
     uint32_t index = 99;                               \
@@ -52,7 +51,7 @@ static void declare_interface(wenc_handle *types) {
   ADDS(wenc_type_list(types, NULL, WENC_REF_VALUE, 6, &index), 7);
 }
 
-/* A component that imports the interface and exports it, with a type of its own in front. */
+/* A component that imports the interface and exports it, after a type of its own. */
 static void declare_component(wenc_handle *types, wenc_handle *interface) {
   REQUIRE(wenc_types_new(types, WENC_COMPONENT) == WENC_DONE);
   ADDS(wenc_type_primitive(types, NULL, WENC_U32, &index), 0);
@@ -63,8 +62,8 @@ static void declare_component(wenc_handle *types, wenc_handle *interface) {
   ADDS(wenc_type_export(types, WENC_TEXT("to"), WENC_REF_INSTANCE, 1, &index), 1);
 }
 
-/* What a type of an instance can't declare, and what is no type. */
-static void hand_in_others(wenc_handle *types, wenc_handle *builder) {
+/* Declarations that an instance type doesn't accept, and handles that aren't types. */
+static void pass_others(wenc_handle *types, wenc_handle *builder) {
   uint32_t index = 7;
   size_t len;
   wenc_handle none = {NULL};
@@ -88,7 +87,7 @@ static void count(wenc_handle *types, enum wenc_space space, uint32_t wanted) {
   REQUIRE(wenc_count(types, space, &number) == WENC_DONE && number == wanted);
 }
 
-/* Functions that the component model provides with options, and of slots. */
+/* Builtins with options and with slots. */
 static void add_functions(wenc_handle *builder) {
   static const wenc_pair options[] = {{WENC_OPTION_UTF8, 0}, {WENC_OPTION_MEMORY, 2}};
   static const wenc_pair unknown[] = {{10, 0}};
@@ -145,8 +144,8 @@ static void declare_module(wenc_handle *types) {
   REQUIRE(wenc_core_type_export(types, WENC_TEXT("main"), &exported) == WENC_DONE);
 }
 
-/* What a type of a module can't declare, and what can't be in one. */
-static void hand_in_to_module(wenc_handle *types, wenc_handle *builder) {
+/* Declarations that a module type doesn't accept, and handles that don't accept its own. */
+static void pass_to_module(wenc_handle *types, wenc_handle *builder) {
   static const wenc_pair known[] = {{WENC_CORE_I32, 0}};
   static const wenc_pair unknown[] = {{WENC_CORE_I32, 0}, {0x71, 0}};
   static const wenc_entity function = {0, 0, WENC_CORE_FUNC, 0, 0, false, false, false};
@@ -207,7 +206,7 @@ static void add_core_types(wenc_handle *builder) {
   static const wenc_pair results[] = {{WENC_CORE_I64, 0}, {WENC_CORE_V128, 0}};
   wenc_handle module = {NULL}, instance = {NULL}, component = {NULL};
   declare_module(&module);
-  hand_in_to_module(&module, builder);
+  pass_to_module(&module, builder);
   count(&module, WENC_CORE_TYPES, 2);
   declare_around(&instance, &component, &module);
   count(&component, WENC_CORE_TYPES, 3);
@@ -236,7 +235,7 @@ int main(void) {
   wenc_handle builder = {NULL}, interface = {NULL}, world = {NULL};
   REQUIRE(wenc_new(&builder) == WENC_DONE);
   declare_interface(&interface);
-  hand_in_others(&interface, &builder);
+  pass_others(&interface, &builder);
   declare_component(&world, &interface);
   count(&interface, WENC_TYPES, 8);
   count(&world, WENC_INSTANCES, 2);

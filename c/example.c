@@ -1,5 +1,5 @@
-/* A component that imports a function, has a nested component and a core module, and exports what
- * it lifts from that module: its bytes in hexadecimal, and its sections.
+/* Builds a component that imports a function, has a nested component and a core module, and exports
+ * a function that it lifts from that module. Prints its bytes in hexadecimal, and its sections.
  *
  *     cargo build --profile c -p libwenc
  *     gcc -Wall -Wextra -Werror -o example c/example.c target/c/libwenc.a && ./example */
@@ -8,10 +8,10 @@
 
 #include "wenc.h"
 
-/* An array, and how many there are in it. */
+/* An array and its length. */
 #define ALL(array) array, sizeof(array) / sizeof(array)[0]
 
-/* The core module that exports the function "run", which takes and gives nothing. */
+/* The core module that exports the function "run", without parameters and results. */
 static const uint8_t module[] = {0x00, 0x61, 0x73, 0x6d, 0x01, 0x00, 0x00, 0x00, 0x01, 0x04, 0x01,
                                  0x60, 0x00, 0x00, 0x03, 0x02, 0x01, 0x00, 0x07, 0x07, 0x01, 0x03,
                                  0x72, 0x75, 0x6e, 0x00, 0x00, 0x0a, 0x04, 0x01, 0x02, 0x00, 0x0b};
@@ -23,7 +23,7 @@ static void check(enum wenc_status status) {
   }
 }
 
-/* A component that imports a type, a point, and a function that takes one and gives a text. */
+/* A component that imports a type, a point, and a function from it to a text. */
 static void build_nested(wenc_handle *builder) {
   static const wenc_part fields[] = {{WENC_TEXT("x"), WENC_REF_PRIMITIVE, WENC_S32},
                                      {WENC_TEXT("y"), WENC_REF_PRIMITIVE, WENC_S32}};
@@ -47,7 +47,7 @@ static void build(wenc_handle *builder) {
   build_nested(&nested);
   check(wenc_component(builder, NULL, &nested, NULL));
 
-  /* A function that takes and gives nothing is imported. */
+  /* A function without parameters and results is imported. */
   check(wenc_type_function(builder, NULL, false, NULL, 0, WENC_REF_NONE, 0, &ty));
   check(wenc_import(builder, WENC_TEXT("log"), WENC_REF_FUNC, ty, NULL));
 

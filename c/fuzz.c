@@ -1,7 +1,7 @@
-/* Random calls in random order with any arguments, while requests for memory are refused at random.
- * A call that is accepted is made once more, with the same arguments and all memory, by a second
- * handle: both have the same indices and the same bytes at the end. So a refused call changed
- * nothing. All memory is given back.
+/* Random calls in random order with any arguments, while allocations fail at random. A call that
+ * succeeds is repeated, with the same arguments and all memory, by a second handle: both have the
+ * same indices, and the same bytes at the end. So a call that failed changed nothing. All memory is
+ * freed.
  *
  *     c/fuzz.py >cases.h
  *     cargo build --profile c -p libwenc
@@ -14,10 +14,10 @@
 
 #include "wenc.h"
 
-/* The sequence of calls that is made, by its seed, and the call in it. */
+/* The seed of the current sequence of calls, and the name of the current call. */
 static uint64_t seed, state;
 static const char *name;
-/* The names of its parameters, with a space before and behind each. */
+/* The names of its parameters, with a space before and after each. */
 static const char *parameters;
 
 #define REQUIRE(so) require((so), #so, __LINE__)
@@ -29,7 +29,7 @@ static void require(bool is_so, const char *what, int line) {
   abort();
 }
 
-/* ---- memory: of what the library asks for, blocks are counted, and one request may be refused. */
+/* ---- memory: the library's blocks are counted, and one allocation may fail. */
 
 void *__real_malloc(size_t len);
 void *__real_calloc(size_t count, size_t len);
@@ -69,8 +69,7 @@ void __wrap_free(void *at) {
   __real_free(at);
 }
 
-/* ---- random arguments. Each stands in a block of its own length, so that what is read behind it
- * is seen. */
+/* ---- random arguments, each in a block of its own length, so that reads past its end are seen */
 
 static uint32_t below(uint32_t limit) {
   uint64_t mixed;
@@ -83,7 +82,7 @@ static uint32_t below(uint32_t limit) {
 static void *kept[256];
 static size_t kept_len;
 
-/* Now and then it is NULL, also where it may not be. */
+/* Sometimes it is NULL, also where that isn't allowed. */
 static void *keep(const void *from, size_t len) {
   void *at = below(len == 0 ? 2 : 200) == 0 ? NULL : __real_malloc(len);
   if (at != NULL) memcpy(at, from, len);
@@ -106,7 +105,7 @@ static uint32_t a_number(void) {
   }
 }
 
-/* Mostly what stands for something. */
+/* Mostly a number with a meaning. */
 static uint32_t a_kind(void) { return below(40) == 0 ? a_number() : below(below(4) ? 9 : 45); }
 
 static size_t a_size(void) { return below(10) == 0 ? SIZE_MAX - below(3) : below(3); }
@@ -180,7 +179,7 @@ static list_of_bytes some_bytes(void) {
   return list;
 }
 
-/* A list of so many values, each of which `value` makes. */
+/* A list of values, each of which is the expression `value`. */
 #define SOME(type, of, value)                                      \
   static list_of_##of some_##of(void) {                            \
     type values[8];                                                \
@@ -285,7 +284,7 @@ ONE(wenc_subtype, subtype, a_subtype())
 
 /* ---- sequences of calls */
 
-/* A handle, and the one that makes the same calls with all memory. */
+/* A handle, and one that makes the same calls with all memory. */
 typedef struct {
   wenc_handle handle, shadow;
 } two;
@@ -294,7 +293,7 @@ typedef struct {
 
 static unsigned long calls, accepted, refusals, compared, read_items, visited, blamed, said;
 
-/* Begins something: what is decided by a number. */
+/* Begins a session, whose kind depends on a number. */
 static enum wenc_status begin(uint32_t number, wenc_handle *handle) {
   static const uint8_t component[] = {0, 'a', 's', 'm', 13, 0, 1, 0, 10, 6, 1, 0, 1, 'f', 1, 0};
   static const enum wenc_kind kinds[] = {WENC_MODULE, WENC_COMPONENT, WENC_INSTANCE};
@@ -306,14 +305,14 @@ static enum wenc_status begin(uint32_t number, wenc_handle *handle) {
   return wenc_by_hand_new(handle);
 }
 
-/* What a call may return. */
+/* Checks that a call may return this status. */
 static void check_status(enum wenc_status status) {
   REQUIRE((unsigned)status <= WENC_NO_HANDLE && status != WENC_UNFINISHED);
   REQUIRE(status != WENC_NO_MEMORY || was_refused);
   if (status == WENC_NO_MEMORY) refusals++;
 }
 
-/* What is said of a call that failed: its status and, if an argument is wrong, a parameter. */
+/* Checks the error of a call: its status and, if an argument is wrong, the name of a parameter. */
 static void check_error(const wenc_handle *handle, enum wenc_status status) {
   char named[64];
   wenc_error error;
@@ -342,7 +341,7 @@ static void begin_two(two *one) {
   if (status == WENC_DONE) REQUIRE(begin(number, &one->shadow) == WENC_DONE);
 }
 
-/* A sentence says why the section can't be read: as much of it as there is room for. */
+/* Checks the sentence about a section that can't be read: it is cut off to the size. */
 static void check_sentence(const uint8_t *bytes, size_t len, size_t section, bool is_bad) {
   char text[256];
   size_t size = below(sizeof text), wanted;
@@ -354,7 +353,7 @@ static void check_sentence(const uint8_t *bytes, size_t len, size_t section, boo
   if (is_bad) said++;
 }
 
-/* The nodes of an item that are left to visit, those that are within others, and their bytes. */
+/* The numbers of nodes that are left to visit and of nodes within others, and their bytes. */
 typedef struct {
   uint32_t left;
   uint64_t within;
@@ -362,7 +361,7 @@ typedef struct {
   size_t len;
 } nodes;
 
-/* Each node but the item is within one before it, and its bytes are within the component's. */
+/* Checks that each node but the item is within an earlier one, and its bytes in the component. */
 static bool check_node(void *context, const wenc_node *node) {
   nodes *all = (nodes *)context;
   REQUIRE(all->left > 0 && node->kind <= WENC_NODE_STRUCT && node->space <= WENC_SPACES);
@@ -392,7 +391,7 @@ static bool check_nodes(const wenc_walk *walk, const wenc_listed_item *item) {
     REQUIRE(status == WENC_BAD_ARGUMENT);
     return false;
   }
-  /* What the data of a custom section contains may be bad. */
+  /* The data of a custom section may be malformed. */
   if (wenc_item_fault_text(item->section, walk->bytes + item->place, item->len, text,
                            sizeof text) == 0) {
     REQUIRE(status == (item->section > WENC_SECTION_EXPORT ? WENC_BAD_ARGUMENT : WENC_DONE));
@@ -405,7 +404,7 @@ static bool check_nodes(const wenc_walk *walk, const wenc_listed_item *item) {
   return status == WENC_DONE;
 }
 
-/* Walks over bytes beside a listing of them: the same items, or the same status. */
+/* Compares a walk over bytes with a listing of them: the same items, or the same status. */
 static void compare_walk(const uint8_t *bytes, size_t len) {
   wenc_handle listing = {NULL};
   wenc_walk walk;
@@ -441,7 +440,7 @@ static void compare_walk(const uint8_t *bytes, size_t len) {
   wenc_free(&listing);
 }
 
-/* The same of a copy, of which a byte is changed; and walks with any numbers, which end. */
+/* The same with a copy in which a byte is changed, and with walks with any numbers, which end. */
 static void damage(const uint8_t *bytes, size_t len) {
   uint8_t *copy = (uint8_t *)__real_malloc(len);
   wenc_walk walk;
@@ -487,7 +486,7 @@ static void finish(two *one) {
   damage(bytes, len);
 }
 
-/* Makes a call, and the same once more where it is accepted. */
+/* Makes a call, and repeats it if it succeeds. */
 static void call_two(two *one, two *other) {
   uint32_t number = below(CASES), index = 77, wanted = 77;
   bool is_put = below(8) != 0;

@@ -1,14 +1,13 @@
 /* Walks over a component, and prints its sections and items with their byte offsets, and its debug
- * names. It says why an item, a section or names can't be read, and goes on behind the section.
- * Nothing is allocated. */
+ * names. Where an item, a section or names can't be read, prints why, and continues after the
+ * section. Nothing is allocated. */
 #include <stdio.h>
 #include <stdlib.h>
 
 #include "wenc.h"
 
-/* A function type; backpressure.inc, behind it a builtin that isn't known; a section that isn't
- * known; an import, an alias of its export, and an export; and debug names, with a subsection that
- * has no size. */
+/* A function type; backpressure.inc, followed by an unknown builtin; an unknown section; an import,
+ * an alias of its export, and an export; and debug names, with a subsection without a size. */
 static const uint8_t component[] = {
     0x00, 0x61, 0x73, 0x6d, 0x0d, 0x00, 0x01, 0x00, 0x07, 0x05, 0x01, 0x40, 0x00, 0x01, 0x00, 0x08,
     0x04, 0x02, 0x24, 0xff, 0x00, 0x0c, 0x01, 0x07, 0x0a, 0x06, 0x01, 0x00, 0x01, 0x69, 0x05, 0x00,
@@ -47,7 +46,7 @@ static void print_names(const wenc_listed_item *item) {
 }
 
 static void print_items(wenc_walk *walk, size_t section) {
-  /* The number of indices in each space, and at the end what has none. */
+  /* The number of indices in each space, and in none. */
   static unsigned long indices[WENC_SPACES + 1];
   wenc_listed_item item;
   enum wenc_status status;

@@ -1,6 +1,6 @@
 /* Renames an import of a component, and copies everything else byte for byte, except that the
- * number of each section's items and all sizes get their shortest form. It prints the component, in
- * which "b" is "renamed" now, in hexadecimal. */
+ * number of each section's items and all sizes get their shortest form. Prints the component, in
+ * which "b" became "renamed", in hexadecimal. */
 #include <stdio.h>
 #include <stdlib.h>
 #include <string.h>
@@ -18,7 +18,7 @@ static bool is(wenc_text one, wenc_text other) {
   return one.len == other.len && memcmp(one.at, other.at, one.len) == 0;
 }
 
-/* Adds the items of a component to another, in which an import has another name. */
+/* Adds the items of a component to another, with an import renamed. */
 static enum wenc_status rename_import(const uint8_t *bytes, size_t len, wenc_text from,
                                       wenc_text to, wenc_handle *renamed) {
   wenc_walk walk;

@@ -1,5 +1,5 @@
-/* Makes a component section by section: a group of core types, who made it, and names. It prints
- * the component, and then, of each of its sections, what wenc_list reads. */
+/* Builds a component section by section: a group of core types, producers, and names. Prints the
+ * component, and each section as wenc_list reads it. */
 #include <stdio.h>
 #include <stdlib.h>
 
@@ -12,7 +12,7 @@ static void check(enum wenc_status status) {
   }
 }
 
-/* A structure below the core type 7, and a function. */
+/* A struct type with the supertype 7, and a function type. */
 static void add_core_types(wenc_handle *component) {
   static const wenc_pair field[] = {{WENC_CORE_I32 | WENC_CORE_MUTABLE, 0}};
   static const wenc_pair param[] = {{WENC_CORE_I64, 0}}, result[] = {{WENC_CORE_F32, 0}};
@@ -38,7 +38,7 @@ static void add_names(wenc_handle *component) {
   wenc_free(&names);
 }
 
-/* The sections, each with its offset, its length, its id, and the name of its first item. */
+/* Prints the offset, the length and the id of each section, and the name of its first item. */
 static void list(const uint8_t *bytes, size_t len) {
   wenc_handle listing = {NULL};
   wenc_listed_section section;

@@ -1,5 +1,5 @@
-/* Prints all that the items of a component contain: the fields of a record type, the parameters of
- * a function type, the options of a lifted function, the arguments of instantiations, and the tools
+/* Prints the contents of the items of a component: the fields of a record type, the parameters of a
+ * function type, the options of a lifted function, the arguments of instantiations, and the tools
  * that produced it. Nothing is allocated. */
 #include <stdio.h>
 #include <stdlib.h>
@@ -20,7 +20,7 @@ static void print_text(const char *before, wenc_text text, const char *after) {
   if (text.at != NULL) printf("%s%.*s%s", before, (int)text.len, text.at, after);
 }
 
-/* Prints a node on a line of its own, below that which it is in, and counts it. */
+/* Prints a node on a line of its own, indented by its depth, and counts it. */
 static bool print_node(void *context, const wenc_node *node) {
   unsigned long number = (unsigned long)node->number;
   ++*(unsigned long *)context;

@@ -1,7 +1,7 @@
 //! The library for C: `libwenc.a` and `libwenc.so`.
 //!
-//! In a profile that aborts on panic, as `--profile c`, it stands on C's allocator and `abort`
-//! alone. In any other it links Rust's `std`.
+//! In a profile that aborts on panic, as `--profile c`, it needs only C's allocator and `abort`. In
+//! any other it links Rust's `std`.
 #![no_std]
 
 #[cfg(not(panic = "abort"))]

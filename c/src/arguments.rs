@@ -37,7 +37,7 @@ pub struct Pair {
     pub number: u32,
 }
 
-/// `wenc_text`: a string, or none if the pointer is NULL and may be.
+/// `wenc_text`: a string, or none if the pointer is NULL where that is allowed.
 #[derive(Clone, Copy)]
 #[repr(C)]
 pub struct Text {
@@ -191,17 +191,16 @@ impl Entity {
     }
 }
 
-/// Returns the value of a number, or fails with the argument that is none.
+/// Returns the value of a number, or fails with this argument if it has none.
 pub(crate) fn known<T>(argument: &'static CStr, value: Option<T>) -> Result<T> {
     value.ok_or(Refused::bad(argument))
 }
 
-/// Returns an iterator over values with their names. All of them are checked first, so it yields
-/// all.
+/// Returns an iterator over values with their names, which are all checked first.
 ///
 /// # Errors
 ///
-/// Fails if a name isn't UTF-8, or a pair of numbers isn't known to `of`.
+/// Fails if a name isn't UTF-8, or if `of` returns `None`.
 pub(crate) unsafe fn named<'a, T>(
     argument: &'static CStr,
     parts: &'a [Part],

@@ -15,7 +15,7 @@ pub(crate) struct LastError {
     of_read: AtomicU32,
 }
 
-/// The arguments of calls that only read, by their numbers; the first stands for none.
+/// The arguments of calls that only read, by their numbers; 0 is none.
 const ARGUMENTS: [&CStr; 7] = [c"", c"handle", c"bytes", c"len", c"space", c"number", c"section"];
 
 impl LastError {
@@ -31,7 +31,7 @@ impl LastError {
         self.of_read.store(refused.status as u32 | argument << 8, Ordering::Relaxed);
     }
 
-    /// Returns what was recorded last.
+    /// Returns the error that was recorded last.
     fn row(&self) -> ErrorRow {
         let of_read = self.of_read.load(Ordering::Relaxed);
         if of_read != 0 {

@@ -1,9 +1,9 @@
 //! The functions of `wenc.h`: they read the numbers, pointers and lengths of C, and make the calls
-//! of the crate `wenc`. `library` makes the library for C of them.
+//! of the crate `wenc`. The package in `library` compiles them to the library for C.
 //!
-//! A call reads its arguments, whole lists included, before it changes anything; so a call that
-//! fails changes nothing. A pointer that comes with a length of 0 isn't read. Any other pointer
-//! must be NULL or as the header says, which nothing can check.
+//! A call reads its arguments, including all members of lists, before it changes anything; so a
+//! call that fails changes nothing. A pointer with a length of 0 isn't read. Any other pointer must
+//! be NULL or as the header requires, which can't be checked.
 #![no_std]
 #![allow(clippy::missing_safety_doc, reason = "`wenc.h` says what each call needs")]
 
@@ -52,8 +52,8 @@ pub enum Status {
     End,
 }
 
-/// Why a call fails: its status, and the argument that is at fault, by its name in the header, with
-/// the number of its member.
+/// Why a call fails: its status, and the name in the header of the argument at fault, with the
+/// number of the member.
 #[derive(Clone, Copy, Debug)]
 struct Refused {
     status: Status,
@@ -71,17 +71,17 @@ impl<S: Into<Status>> From<S> for Refused {
 }
 
 impl Refused {
-    /// An argument whose value isn't allowed.
+    /// Returns the error of an argument whose value isn't allowed.
     fn bad(argument: &'static CStr) -> Self {
         Self::from(Status::BadArgument).of(argument)
     }
 
-    /// The fault of an argument.
+    /// Adds the argument at fault.
     fn of(self, argument: &'static CStr) -> Self {
         Self { argument: Some(argument), ..self }
     }
 
-    /// The fault of a member of an argument.
+    /// Adds the number of the member at fault.
     fn at(self, member: usize) -> Self {
         Self { member, ..self }
     }
@@ -94,7 +94,7 @@ impl From<Error> for Status {
             Error::TooMany => Self::TooMany,
             Error::TooLarge => Self::TooLarge,
             Error::Unfinished => Self::Unfinished,
-            // No number of the header stands for what fails with the others.
+            // The header has no values with which the others occur.
             _ => Self::BadArgument,
         }
     }
@@ -137,13 +137,13 @@ pub struct Handle {
     pub at: *mut Owned,
 }
 
-/// What a handle owns.
+/// A session, and its last error.
 pub struct Owned {
     session: Session,
     last_error: LastError,
 }
 
-/// Creates what a handle is to own. Fails, and records that, if the handle owns something already.
+/// Creates the session of a handle. Fails, and records that, if the handle owns one already.
 unsafe fn begin(handle: *mut Handle, make: impl FnOnce() -> Result<Session>) -> Result<()> {
     let handle = unsafe { handle.as_mut() }.ok_or(Status::NoHandle)?;
     if let Some(owned) = unsafe { handle.at.as_mut() } {
@@ -160,12 +160,12 @@ unsafe fn begin(handle: *mut Handle, make: impl FnOnce() -> Result<Session>) -> 
     Ok(())
 }
 
-/// Returns what a handle owns, to read it.
+/// Returns what a handle owns, for reading.
 unsafe fn owned<'a>(handle: *const Handle) -> Option<&'a Owned> {
     unsafe { handle.as_ref()?.at.as_ref() }
 }
 
-/// Returns the session of a second handle, to read it. It must differ from the first.
+/// Returns the session of a second handle, for reading. It must differ from the first.
 unsafe fn other<'a>(session: &Session, handle: *const Handle) -> Result<&'a Session> {
     let at = unsafe { handle.as_ref() }.map_or(ptr::null_mut(), |handle| handle.at);
     // The first is borrowed: no reference to it is made here.
@@ -313,7 +313,7 @@ macro_rules! call {
     };
 }
 
-/// Returns the name of an argument, as C has it.
+/// Returns the name of an argument in the header.
 macro_rules! name_of {
     (reference) => {
         c"ref"

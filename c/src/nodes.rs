@@ -29,8 +29,8 @@ pub struct NodeRow {
 /// `wenc_node_visit`: a function of C that is called with nodes, until it returns `false`.
 pub type NodeVisit = unsafe extern "C" fn(context: *mut c_void, node: *const NodeRow) -> Flag;
 
-/// Where a value is in its item: its name, if it is a field, the bytes that it was read from, if
-/// they are known, and the number of values around it.
+/// The place of a value in its item: its name, if it is a field, the bytes that it was read from,
+/// if they are known, and the number of values around it.
 #[derive(Clone, Copy)]
 struct Place<'a> {
     name: Option<&'a str>,
@@ -60,8 +60,8 @@ struct Visitor<'a> {
 }
 
 impl Visitor<'_> {
-    /// Visits a value, and then those in it. It takes stack for each type in another, of which
-    /// readers allow 100, but none for variants and options.
+    /// Visits a value, and then those in it. It takes stack for each nested type, of which readers
+    /// allow 100, but none for variants and options.
     fn value(&self, mut at: Place<'_>, mut node: Node<'_>) -> Result<(), Status> {
         self.give(at, node)?;
         while let Node::Present(child) | Node::Variant(_, child) = node {
@@ -98,8 +98,8 @@ impl Visitor<'_> {
         Ok(())
     }
 
-    /// Calls the function with a value. It isn't inlined, so that the stack of what calls itself
-    /// stays small.
+    /// Calls the function with a value. It isn't inlined, so that recursive callers have small
+    /// stack frames.
     #[inline(never)]
     fn give(&self, at: Place<'_>, node: Node<'_>) -> Result<(), Status> {
         self.call(self.row(at, node))
@@ -134,7 +134,7 @@ impl Visitor<'_> {
         }
     }
 
-    /// Describes a value of a kind, until more is known.
+    /// Describes a value of a kind, without its number and text.
     fn blank(&self, at: Place<'_>, kind: u32) -> NodeRow {
         NodeRow {
             number: 0,
@@ -150,7 +150,7 @@ impl Visitor<'_> {
         }
     }
 
-    /// Adds a text or bytes, which are the component's.
+    /// Adds a text or bytes, which are borrowed from the component.
     fn borrowed(&self, row: NodeRow, bytes: &[u8]) -> NodeRow {
         let (place, text) = (self.place_of(bytes), Text::of_bytes(bytes));
         NodeRow { text, place, len: bytes.len(), ..row }
@@ -161,7 +161,7 @@ impl Visitor<'_> {
         part.as_ptr().addr().wrapping_sub(self.component.as_ptr().addr())
     }
 
-    /// Returns the number of tools in the data of a producers section, up to what can't be read.
+    /// Returns the number of tools in the data of a producers section that can be read.
     fn tools(&self, data: &[u8]) -> u64 {
         let tools = self.is_producers.then(|| ProducersReader::new(data));
         tools.map_or(0, |tools| tools.take_while(core::result::Result::is_ok).count() as u64)

@@ -1,5 +1,4 @@
-//! The values for the numbers of the header's enumerations. Each list is in the order of the
-//! header.
+//! The values of the header's enumerations. Each list is in the order of the header.
 
 use crate::arguments::Entity;
 use wenc::tree::{
@@ -118,10 +117,10 @@ pub fn section(number: u32) -> Option<ComponentSectionId> {
     nth(&ComponentSectionId::ALL, number)
 }
 
-/// The number of no index space.
+/// The number of index spaces, for items without one.
 pub const NO_SPACE: u32 = Space::ALL.len() as u32;
 
-/// `enum wenc_scope`, and how far out or in the scope is.
+/// `enum wenc_scope`, and the distance of the scope, `out`.
 pub fn of_scope(scope: Scope) -> (u32, u32) {
     match scope {
         Scope::Component(out) => (0, out),
@@ -129,7 +128,7 @@ pub fn of_scope(scope: Scope) -> (u32, u32) {
     }
 }
 
-/// Returns what an alias refers to, in `enum wenc_alias`.
+/// Returns the number of an alias in `enum wenc_alias`.
 pub fn of_alias(alias: &Alias<'_>) -> u32 {
     match alias {
         Alias::InstanceExport { .. } => 1,

@@ -13,8 +13,8 @@ calls! {
         add_custom(session, &CustomSection { name: name.into(), data: data.into() })
     };
     wenc_raw_custom_section(bytes: *const u8, len: usize) = |session| {
-        // They have their size in front, and may be more than that counts.
-        let bytes = list(bytes, len).map_err(|status| Refused::from(status).of(c"bytes"))?;
+        // They begin with their size, and may be longer than a size of 32 bits.
+        let bytes = list(bytes, len).map_err(|refused| refused.of(c"bytes"))?;
         match session {
             Session::Building(builder) => Ok(builder.try_raw_custom_section(bytes)?),
             _ => session.append(&RawCustomSection(bytes)).map(drop),

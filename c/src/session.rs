@@ -1,4 +1,4 @@
-//! What a handle owns, and the calls that apply to several kinds of it.
+//! What handles own, and the calls that several kinds of sessions accept.
 
 use crate::arguments::known;
 use crate::listing::Listed;

@@ -1,7 +1,7 @@
 //! The walk over a component: cursors in the caller's memory, which borrow the component's bytes.
 //!
-//! Whatever a cursor contains, its offsets are checked against the number of bytes before they are
-//! used: a cursor that its owner has changed reads something else, or fails.
+//! The offsets of a cursor are checked against the number of bytes before they are used: a cursor
+//! that its owner has changed reads something else, or fails.
 
 use crate::arguments::{Text, list};
 use crate::rows::{ItemRow, SectionRow};
@@ -41,7 +41,7 @@ impl Walk {
         Ok(items.ok_or(Status::BadArgument)?)
     }
 
-    /// Goes to these items, behind which the next section begins.
+    /// Goes to these items, after which the next section begins.
     fn enter(&mut self, id: u8, items: Range<usize>, count: u32) {
         (self.next_section, self.next_item, self.end) = (items.end, items.start, items.end);
         (self.items, self.id) = (count, id.into());

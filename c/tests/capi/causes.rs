@@ -37,11 +37,11 @@ fn sentence_of_item(section: u32, bytes: &[u8]) -> String {
 }
 
 /// What C returns for a fault: the status, the section, the sentence, and where the walk stays.
-type Told = (Status, usize, String, Option<usize>);
+type Reported = (Status, usize, String, Option<usize>);
 
 /// The faults of a walk that continues after each section that can't be read.
-fn walked(bytes: &[u8]) -> Vec<Told> {
-    let (mut walk, mut told): (Walk, _) = (unsafe { mem::zeroed() }, Vec::new());
+fn walked(bytes: &[u8]) -> Vec<Reported> {
+    let (mut walk, mut reported): (Walk, _) = (unsafe { mem::zeroed() }, Vec::new());
     let status = unsafe { wenc_walk_begin(&mut walk, bytes.as_ptr(), bytes.len()) };
     if status != Status::Done {
         return vec![(status, 0, sentence(bytes, 0), None)];
@@ -55,17 +55,17 @@ fn walked(bytes: &[u8]) -> Vec<Told> {
                     Status::End => break,
                     status => {
                         let text = sentence(bytes, section.place);
-                        told.push((status, section.place, text, Some(walk.next_item)));
+                        reported.push((status, section.place, text, Some(walk.next_item)));
                         break;
                     }
                 }
             },
-            Status::End => return told,
+            Status::End => return reported,
             status => {
                 let place = walk.next_section;
-                told.push((status, place, sentence(bytes, place), None));
+                reported.push((status, place, sentence(bytes, place), None));
                 if unsafe { wenc_walk_skip(&mut walk, ptr::null_mut()) } != Status::Done {
-                    return told;
+                    return reported;
                 }
             }
         }
@@ -127,7 +127,7 @@ fn content(bytes: &[u8], section: usize) -> Option<usize> {
 }
 
 /// What a walk should return for a fault.
-fn told(bytes: &[u8], fault: ListFault) -> Told {
+fn reported(bytes: &[u8], fault: ListFault) -> Reported {
     let (status, section, unread, _) = parts(fault);
     let next = match unread {
         Some(Unread::Item { place, .. } | Unread::Behind { place }) => Some(place),
@@ -165,7 +165,7 @@ fn is_listed_so(bytes: &[u8], first: Option<ListFault>) {
 fn compare(bytes: &[u8], counts: &mut BTreeMap<&str, usize>) {
     let faults = faults(bytes);
     is_listed_so(bytes, faults.first().copied());
-    let wanted: Vec<Told> = faults.iter().map(|fault| told(bytes, *fault)).collect();
+    let wanted: Vec<Reported> = faults.iter().map(|fault| reported(bytes, *fault)).collect();
     assert_eq!(walked(bytes), wanted);
     for fault in faults {
         let kind = parts(fault).3.map_or("none", |cause| stop(cause).2);

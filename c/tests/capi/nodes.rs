@@ -59,7 +59,7 @@ fn index_of(node: Node) -> [u32; 3] {
     }
 }
 
-/// What C should be told of a value of Rust, and of those within.
+/// The nodes that C expects for a value of Rust and for those within it.
 fn expect(node: Node, depth: u32, name: Option<&str>, found: &mut Vec<Seen>) {
     let (own, (kind, text)) = (found.len(), kind(node));
     let (name, text) = (name.map(String::from), text.map(<[u8]>::to_vec));
@@ -185,7 +185,7 @@ fn nodes_are_those_of_rust() {
         let trees = Sections::new(&component).expect("a component").trees();
         let trees: Vec<ItemTree> = trees.map_while(|item| Some(item.ok()?.1)).collect();
         let (rows, _) = items(&component);
-        // a walk goes on behind what it can't read
+        // a walk continues after what it can't read
         assert!(rows.len() >= trees.len());
         for (item, tree) in rows.iter().zip(&trees) {
             let (rows, status) = nodes(&begun(&component), item, usize::MAX);
@@ -285,7 +285,7 @@ fn bad_arguments_of_nodes() {
     };
     let (none, nothing): (Walk, ItemRow) = unsafe { (mem::zeroed(), mem::zeroed()) };
     let mut walk = begun(component);
-    // in every order: before a section, in it, before an item, and behind the last
+    // in every order: before a section, in it, before an item, and after the last
     assert_eq!(status(&walk, &nothing), Status::Malformed);
     assert_eq!(next_item(&mut walk).err(), Some(Status::End));
     next_section(&mut walk).expect("a section");
@@ -357,8 +357,8 @@ fn producers_up_to_a_fault() {
     let section = b"\0asm\x0d\0\x01\0\0\x1f\x09producers\x01\x08language\x02\x04Rust\x042024";
     let (rows, _) = items(section);
     let (found, status) = nodes(&begun(section), &rows[0], usize::MAX);
-    let told: Vec<_> = found.iter().map(|row| (row.kind, row.number)).collect();
-    assert_eq!(told, [(12, 2), (4, 0), (5, 1), (9, 3), (4, 0), (4, 0), (4, 0)]);
+    let rows: Vec<_> = found.iter().map(|row| (row.kind, row.number)).collect();
+    assert_eq!(rows, [(12, 2), (4, 0), (5, 1), (9, 3), (4, 0), (4, 0), (4, 0)]);
     assert_eq!(status, Status::Malformed);
     let view = Sections::new(section).expect("a component").items().next();
     assert!(matches!(view, Some(Ok((_, ItemView::Custom { .. })))));

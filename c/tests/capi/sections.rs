@@ -114,7 +114,7 @@ fn components_in_components() {
         assert!(nested.is_nothing());
         assert_eq!(outer.finished()[8..], bytes![0x04, sized(INNER)].repeat(3));
     }
-    // By hand there are no indices, and only what is by hand is nested.
+    // Built by hand, a component returns no indices, and nests only others built by hand.
     let [mut builder, mut nested] = inner();
     let mut outer = Held::by_hand();
     let (to, none) = (outer.at(), ptr::null());

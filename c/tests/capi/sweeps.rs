@@ -4,7 +4,7 @@
 
 use crate::called::{Done, UNTOUCHED, call};
 use crate::edges::{Held, named};
-use crate::walk::is_told;
+use crate::walk::is_described;
 use std::{mem, ptr};
 use wenc::ComponentBuilder;
 use wenc::tree::{Command, InstanceTree, Space};
@@ -221,7 +221,7 @@ fn each_is_read_and_added_again() {
         let space = row.space.map_or(13, |space| space.number() as u32);
         let places = (item.index, item.section, item.space, item.indices);
         assert_eq!(places, (0, row.id.into(), space, defined), "{}", row.name);
-        is_told(&item, &(row.command)(Some(name.as_str().into()), &size));
+        is_described(&item, &(row.command)(Some(name.as_str().into()), &size));
         let (mut b, read) = (ComponentBuilder::default(), in_rust.items().next().expect("an item"));
         let wanted = [(); 2].map(|()| b.item(Some(&name), read).unwrap_or(0));
         assert_eq!(indices, wanted, "{}", row.name);

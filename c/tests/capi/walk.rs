@@ -121,7 +121,7 @@ fn names_of(name: &NameTree) -> [Option<&str>; 4] {
 }
 
 /// Expects that the row describes the item as the command does.
-pub fn is_told<'a>(row: &ItemRow, command: &'a Command) {
+pub fn is_described<'a>(row: &ItemRow, command: &'a Command) {
     let plain = |name: &'a str| [Some(name), None, None, None];
     let (names, [reference, of], [alias, kind, item, count]) = match command {
         Command::Import { name, ty } => (names_of(name), of_type(*ty), [0; 4]),
@@ -194,17 +194,17 @@ fn a_walk_goes_on_behind_what_it_cannot_read() {
 #[test]
 fn a_walk_says_what_is_wrong() {
     let status = |bytes: &[u8]| items(bytes).1;
-    let behind = |bytes: &[u8]| status(&[b"\0asm\x0d\0\x01\0", bytes].concat());
-    assert_eq!(behind(b""), Status::End);
-    assert_eq!(behind(b"\x07"), Status::BadSection);
-    assert_eq!(behind(b"\x07\x05\x01"), Status::BadSection);
-    assert_eq!(behind(b"\0\x02\x02x"), Status::BadSection);
-    assert_eq!(behind(b"\x07\x05\0\x40\0\x01\0"), Status::BadItem);
-    assert_eq!(behind(b"\x07\x05\x02\x40\0\x01\0"), Status::BadItem);
+    let after = |bytes: &[u8]| status(&[b"\0asm\x0d\0\x01\0", bytes].concat());
+    assert_eq!(after(b""), Status::End);
+    assert_eq!(after(b"\x07"), Status::BadSection);
+    assert_eq!(after(b"\x07\x05\x01"), Status::BadSection);
+    assert_eq!(after(b"\0\x02\x02x"), Status::BadSection);
+    assert_eq!(after(b"\x07\x05\0\x40\0\x01\0"), Status::BadItem);
+    assert_eq!(after(b"\x07\x05\x02\x40\0\x01\0"), Status::BadItem);
     let mut deep = b"\x07\xb2\x02\x01".to_vec();
     deep.extend_from_slice(&b"\x41\x01\x01".repeat(101));
     deep.extend_from_slice(b"\x41\0");
-    assert_eq!(behind(&deep), Status::TooDeep);
+    assert_eq!(after(&deep), Status::TooDeep);
     let mut walk: Walk = unsafe { mem::zeroed() };
     for bytes in [&b""[..], b"\0asm\x01\0\0\0", b"\0asm\x0d\0\x01"] {
         let status = unsafe { wenc_walk_begin(&mut walk, bytes.as_ptr(), bytes.len()) };
@@ -457,7 +457,7 @@ fn is_item(row: &ItemRow, range: Range<usize>, view: ItemView<'_>) {
     let indices = view.defined_indices().map_or((13, 0), |(of, n)| (of.number() as u32, n));
     assert_eq!((row.place..row.place + row.len, row.index), (range, 0));
     assert_eq!((row.space, row.indices), indices);
-    is_told(row, &view.to_tree().into());
+    is_described(row, &view.to_tree().into());
     let bytes = match view {
         ItemView::Module(bytes) | ItemView::Component(bytes) => Some(bytes),
         ItemView::Custom { data, .. } => Some(data),
