@@ -1,6 +1,6 @@
 //! Arguments from C: strings, arrays, and the structures of the header.
 
-use crate::{Refused, Result, Status, numbers};
+use crate::{CallError, Result, Status, numbers};
 use alloc::borrow::Cow;
 use alloc::vec::Vec;
 use core::ffi::CStr;
@@ -133,9 +133,9 @@ pub(crate) unsafe fn counted<'a, T>(
 ) -> Result<&'a [T]> {
     if u32::try_from(len).is_err() && is_possible(at, len) {
         let status = if size_of::<T>() == 1 { Status::TooLarge } else { Status::TooMany };
-        return Err(Refused::from(status).of(argument));
+        return Err(CallError::from(status).of(argument));
     }
-    unsafe { list(at, len) }.map_err(|refused| refused.of(argument))
+    unsafe { list(at, len) }.map_err(|error| error.of(argument))
 }
 
 /// Returns a UTF-8 string. Most are ASCII, which is faster to check.
@@ -148,7 +148,7 @@ pub(crate) unsafe fn text<'a>(
     if bytes.is_ascii() {
         return Ok(unsafe { str::from_utf8_unchecked(bytes) });
     }
-    str::from_utf8(bytes).map_err(|_| Refused::from(Status::Malformed).of(argument))
+    str::from_utf8(bytes).map_err(|_| CallError::from(Status::Malformed).of(argument))
 }
 
 /// Returns a debug name, or none.
@@ -193,7 +193,7 @@ impl Entity {
 
 /// Returns the value of a number, or fails with this argument if it has none.
 pub(crate) fn known<T>(argument: &'static CStr, value: Option<T>) -> Result<T> {
-    value.ok_or(Refused::bad(argument))
+    value.ok_or(CallError::bad(argument))
 }
 
 /// Returns an iterator over values with their names, which are all checked first.
@@ -208,8 +208,8 @@ pub(crate) unsafe fn named<'a, T>(
 ) -> Result<impl ExactSizeIterator<Item = (&'a str, T)>> {
     for (member, part) in parts.iter().enumerate() {
         let name = unsafe { text(argument, part.name, part.name_len) };
-        name.map_err(|refused| refused.at(member))?;
-        of(part.kind, part.number).ok_or(Refused::bad(argument).at(member))?;
+        name.map_err(|error| error.at(member))?;
+        of(part.kind, part.number).ok_or(CallError::bad(argument).at(member))?;
     }
     Ok(parts.iter().map(move |part| {
         let at = if part.name_len == 0 { NonNull::dangling().as_ptr() } else { part.name };
@@ -226,7 +226,7 @@ pub(crate) fn unnamed<'a, T>(
     of: impl Fn(u32, u32) -> Option<T> + 'a,
 ) -> Result<impl ExactSizeIterator<Item = T>> {
     if let Some(member) = pairs.iter().position(|pair| of(pair.kind, pair.number).is_none()) {
-        return Err(Refused::bad(argument).at(member));
+        return Err(CallError::bad(argument).at(member));
     }
     Ok(pairs.iter().map(move |pair| of(pair.kind, pair.number).expect("it is known")))
 }

@@ -3,7 +3,7 @@
 use crate::arguments::{Flag, Name, Pair, Part, known, names};
 use crate::numbers::{maybe_value, type_ref, value};
 use crate::session::Session;
-use crate::{Handle, Refused, Result, calls, numbers, other};
+use crate::{CallError, Handle, Result, calls, numbers, other};
 use wenc::{ComponentDefinedTypeEncoder, ComponentTypeEncoder, ComponentValType, Error, ValType};
 
 calls! {
@@ -54,11 +54,11 @@ calls! {
     wenc_type_stream(debug_name: name, ty[reference, of] => maybe_value) -> index
         = |session| defined(session, debug_name, |to| to.try_stream(ty));
     wenc_type(debug_name: name, types: *const Handle) -> index = |session| {
-        match other(session, types).map_err(|refused| refused.of(c"types"))? {
+        match other(session, types).map_err(|error| error.of(c"types"))? {
             Session::ComponentType(ty) => session.ty(debug_name, |to| to.try_component(ty)),
             Session::InstanceType(ty) => session.ty(debug_name, |to| to.try_instance(ty)),
             Session::ModuleType(ty) => session.module_type(debug_name, ty),
-            _ => Err(Refused::bad(c"types")),
+            _ => Err(CallError::bad(c"types")),
         }
     };
     wenc_type_export(name[name_len]: text, ty[reference, of] => type_ref) -> index

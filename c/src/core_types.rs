@@ -2,7 +2,7 @@
 
 use crate::arguments::{Entity, Pair, Subtype, collected, counted, known, unnamed};
 use crate::session::Session;
-use crate::{Refused, Result, Status, calls, numbers};
+use crate::{CallError, Result, Status, calls, numbers};
 use alloc::vec::Vec;
 use wenc::tree::{
     CoreArrayType, CoreCompositeType, CoreFuncType, CoreStructType, CoreSubType, GroupTree,
@@ -27,7 +27,7 @@ calls! {
         let mut types = Vec::new();
         types.try_reserve_exact(subtypes.len())?;
         for (member, subtype) in subtypes.iter().enumerate() {
-            let wrong = |refused: Refused| refused.of(c"subtypes").at(member);
+            let wrong = |error: CallError| error.of(c"subtypes").at(member);
             types.push(subtype.read().map_err(wrong)?);
         }
         let ty = GroupTree::Rec(types);
@@ -36,11 +36,11 @@ calls! {
     wenc_core_type_import(module[module_len]: text, name[name_len]: text, &entity: Entity)
         = |session| match session {
         Session::ModuleType(to) => Ok(to.try_import(module, name, entity.read()?).map(drop)?),
-        _ => Err(session.refusal()),
+        _ => Err(session.wrong_handle()),
     };
     wenc_core_type_export(name[name_len]: text, &entity: Entity) = |session| match session {
         Session::ModuleType(to) => Ok(to.try_export(name, entity.read()?).map(drop)?),
-        _ => Err(session.refusal()),
+        _ => Err(session.wrong_handle()),
     };
 }
 
@@ -59,7 +59,7 @@ impl Subtype {
             is_final: self.is_final.is_set(),
             supertype_idx: self.has_supertype.is_set().then_some(self.supertype),
             composite_type: unsafe { self.composite() }
-                .map_err(|refused| refused.of(c"subtype").at(0))?,
+                .map_err(|error| error.of(c"subtype").at(0))?,
         })
     }
 

@@ -3,7 +3,7 @@
 use crate::arguments::{Name, Pair, Part, copied, known};
 use crate::numbers::{maybe_type_ref, maybe_value, option, type_ref};
 use crate::session::{Session, counted};
-use crate::{Handle, Refused, Result, calls, numbers, other};
+use crate::{CallError, Handle, Result, calls, numbers, other};
 use core::ffi::CStr;
 use wenc::{
     Alias, ComponentExportKind, ComponentSectionId, ComponentStartSection, ExportKind, ModuleArg,
@@ -52,7 +52,7 @@ macro_rules! builtin {
             36 => $to.try_thread_spawn_ref($first),
             37 => $to.try_thread_spawn_indirect($first, $second),
             38 => $to.try_thread_available_parallelism(),
-            _ => return Err(Refused::bad(c"function")),
+            _ => return Err(CallError::bad(c"function")),
         }
     };
 }
@@ -67,7 +67,7 @@ macro_rules! builtin_with {
             4 => $to.try_future_write($first, $options),
             5 => $to.try_error_context_new($options),
             6 => $to.try_error_context_debug_message($options),
-            _ => return Err(Refused::bad(c"function")),
+            _ => return Err(CallError::bad(c"function")),
         }
     };
 }
@@ -78,7 +78,7 @@ macro_rules! slot {
         match $function {
             1 => $to.try_context_get($ty, $slot),
             2 => $to.try_context_set($ty, $slot),
-            _ => return Err(Refused::bad(c"function")),
+            _ => return Err(CallError::bad(c"function")),
         }
     };
 }
@@ -92,7 +92,7 @@ macro_rules! builder_or {
         match $session {
             Session::Building($to) => Ok($of_builder?),
             Session::$section($to) => counted!($to => $of_section),
-            _ => Err($session.refusal()),
+            _ => Err($session.wrong_handle()),
         }
     };
 }
@@ -204,11 +204,11 @@ calls! {
         )
     };
     wenc_component_ref(debug_name: name, nested: *const Handle) -> index = |session| {
-        let nested = other(session, nested).map_err(|refused| refused.of(c"nested"))?;
+        let nested = other(session, nested).map_err(|error| error.of(c"nested"))?;
         nest(session, debug_name, nested)
     };
     wenc_component(debug_name: name, nested: *mut Handle) -> index = |session| {
-        let given = other(session, nested).map_err(|refused| refused.of(c"nested"))?;
+        let given = other(session, nested).map_err(|error| error.of(c"nested"))?;
         let index = nest(session, debug_name, given)?;
         super::life::wenc_free(nested);
         Ok(index)
@@ -243,7 +243,7 @@ fn nest(session: &mut Session, debug_name: Option<&str>, nested: &Session) -> Re
             Ok(session.builder()?.try_component_ref(debug_name, nested)?)
         }
         Session::ByHand(nested) => add_component(session, debug_name, nested.as_slice()),
-        _ => Err(nested.refusal().of(c"nested")),
+        _ => Err(nested.wrong_handle().of(c"nested")),
     }
 }
 
@@ -252,6 +252,6 @@ fn flag(argument: &'static CStr, number: u32) -> Result<bool> {
     match number {
         0 => Ok(false),
         1 => Ok(true),
-        _ => Err(Refused::bad(argument)),
+        _ => Err(CallError::bad(argument)),
     }
 }

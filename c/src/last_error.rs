@@ -1,6 +1,6 @@
 //! Why the last call by a handle failed.
 
-use crate::{Handle, Refused, Status, owned, put};
+use crate::{CallError, Handle, Status, owned, put};
 use core::ffi::{CStr, c_char};
 use core::ptr;
 use core::sync::atomic::{AtomicU32, Ordering};
@@ -9,7 +9,7 @@ use core::sync::atomic::{AtomicU32, Ordering};
 #[derive(Default)]
 pub(crate) struct LastError {
     /// The error of a call that may change what the handle owns.
-    of_change: Option<Refused>,
+    of_change: Option<CallError>,
     /// The error of a call that only reads, if that was the last one: the status, and from the
     /// second byte on the number of the argument. Several threads may make such calls at once.
     of_read: AtomicU32,
@@ -20,15 +20,15 @@ const ARGUMENTS: [&CStr; 7] = [c"", c"handle", c"bytes", c"len", c"space", c"num
 
 impl LastError {
     /// Records why a call failed that may change what the handle owns.
-    pub fn set(&mut self, refused: Refused) {
-        *self = Self { of_change: Some(refused), ..Self::default() };
+    pub fn set(&mut self, error: CallError) {
+        *self = Self { of_change: Some(error), ..Self::default() };
     }
 
     /// Records why a call failed that only reads.
-    pub fn note(&self, refused: Refused) {
-        let is_it = |argument: &&CStr| refused.argument == Some(*argument);
+    pub fn note(&self, error: CallError) {
+        let is_it = |argument: &&CStr| error.argument == Some(*argument);
         let argument = ARGUMENTS.iter().position(is_it).unwrap_or(0) as u32;
-        self.of_read.store(refused.status as u32 | argument << 8, Ordering::Relaxed);
+        self.of_read.store(error.status as u32 | argument << 8, Ordering::Relaxed);
     }
 
     /// Returns the error that was recorded last.
@@ -39,7 +39,7 @@ impl LastError {
             let argument = argument.and_then(|argument| ARGUMENTS.get(argument).copied());
             return ErrorRow::new(of_read & 0xff, argument, 0);
         }
-        let Refused { status, argument, member } = self.of_change.unwrap_or(Status::Done.into());
+        let CallError { status, argument, member } = self.of_change.unwrap_or(Status::Done.into());
         ErrorRow::new(status as u32, argument, member)
     }
 }

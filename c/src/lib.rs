@@ -55,22 +55,22 @@ pub enum Status {
 /// Why a call fails: its status, and the name in the header of the argument at fault, with the
 /// number of the member.
 #[derive(Clone, Copy, Debug)]
-struct Refused {
+struct CallError {
     status: Status,
     argument: Option<&'static CStr>,
     member: usize,
 }
 
 /// The result of a call, or why it fails.
-type Result<T, E = Refused> = core::result::Result<T, E>;
+type Result<T, E = CallError> = core::result::Result<T, E>;
 
-impl<S: Into<Status>> From<S> for Refused {
+impl<S: Into<Status>> From<S> for CallError {
     fn from(status: S) -> Self {
         Self { status: status.into(), argument: None, member: 0 }
     }
 }
 
-impl Refused {
+impl CallError {
     /// Returns the error of an argument whose value isn't allowed.
     fn bad(argument: &'static CStr) -> Self {
         Self::from(Status::BadArgument).of(argument)
@@ -126,7 +126,7 @@ impl From<NamesFault> for Status {
 
 impl From<Result<()>> for Status {
     fn from(result: Result<()>) -> Self {
-        result.map_or_else(|refused| refused.status, |()| Self::Done)
+        result.map_or_else(|error| error.status, |()| Self::Done)
     }
 }
 
@@ -147,9 +147,9 @@ pub struct Owned {
 unsafe fn begin(handle: *mut Handle, make: impl FnOnce() -> Result<Session>) -> Result<()> {
     let handle = unsafe { handle.as_mut() }.ok_or(Status::NoHandle)?;
     if let Some(owned) = unsafe { handle.at.as_mut() } {
-        let refused = Refused::bad(c"handle");
-        owned.last_error.set(refused);
-        return Err(refused);
+        let error = CallError::bad(c"handle");
+        owned.last_error.set(error);
+        return Err(error);
     }
     let owned = Owned { session: make()?, last_error: LastError::default() };
     // `Box::new` aborts where the allocation fails.
@@ -186,7 +186,7 @@ unsafe fn change<T>(
     let Some(owned) = handle.and_then(|handle| unsafe { handle.at.as_mut() }) else {
         return Status::NoHandle;
     };
-    let result = call(&mut owned.session).inspect_err(|refused| owned.last_error.set(*refused));
+    let result = call(&mut owned.session).inspect_err(|error| owned.last_error.set(*error));
     result.map(|value| unsafe { put(to, value) }).into()
 }
 
@@ -197,7 +197,7 @@ unsafe fn read<'a, T>(
     call: impl FnOnce(&'a Session) -> Result<T>,
 ) -> Status {
     let Some(owned) = (unsafe { owned(handle) }) else { return Status::NoHandle };
-    let result = call(&owned.session).inspect_err(|refused| owned.last_error.note(*refused));
+    let result = call(&owned.session).inspect_err(|error| owned.last_error.note(*error));
     result.map(|value| unsafe { put(to, value) }).into()
 }
 
@@ -304,7 +304,7 @@ macro_rules! call {
         $crate::call! {
             $f $i $s $b, [$($c)* $a: *const $t,]
             [$($r)*
-                let $a = $a.as_ref().ok_or($crate::Refused::bad($crate::name_of!($a)))?;
+                let $a = $a.as_ref().ok_or($crate::CallError::bad($crate::name_of!($a)))?;
             ] $($rest)*
         }
     };

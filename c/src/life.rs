@@ -2,7 +2,7 @@
 
 use crate::arguments::known;
 use crate::session::Session;
-use crate::{Handle, Refused, Result, Status, begin, change, numbers, put, read};
+use crate::{CallError, Handle, Result, Status, begin, change, numbers, put, read};
 use alloc::boxed::Box;
 use alloc::vec::Vec;
 use core::ffi::{CStr, c_char};
@@ -72,7 +72,7 @@ pub unsafe extern "C" fn wenc_types_new(handle: *mut Handle, kind: u32) -> Statu
         ComponentExportKind::Module => Ok(Session::ModuleType(ModuleType::new())),
         ComponentExportKind::Component => Ok(Session::ComponentType(ComponentType::new())),
         ComponentExportKind::Instance => Ok(Session::InstanceType(InstanceType::new())),
-        _ => Err(Refused::bad(c"kind")),
+        _ => Err(CallError::bad(c"kind")),
     };
     unsafe { begin(handle, make) }.into()
 }
@@ -91,7 +91,7 @@ pub unsafe extern "C" fn wenc_section_new(handle: *mut Handle, section: u32) -> 
             }
             ComponentSectionId::Import => Session::Imports(ComponentImportSection::new()),
             ComponentSectionId::Export => Session::Exports(ComponentExportSection::new()),
-            _ => return Err(Refused::bad(c"section")),
+            _ => return Err(CallError::bad(c"section")),
         })
     };
     unsafe { begin(handle, make) }.into()
@@ -119,13 +119,13 @@ fn finished(session: &mut Session) -> Result<&[u8]> {
             // No call leaves an item unfinished.
             Session::Building(builder) => builder.try_finish()?,
             Session::ByHand(component) => component.finish(),
-            _ => return Err(Refused::bad(c"handle")),
+            _ => return Err(CallError::bad(c"handle")),
         };
         *session = Session::Finished(bytes);
     }
     match session {
         Session::Finished(bytes) => Ok(bytes),
-        _ => Err(Refused::bad(c"handle")),
+        _ => Err(CallError::bad(c"handle")),
     }
 }
 
@@ -148,15 +148,15 @@ pub unsafe extern "C" fn wenc_finish(
 pub unsafe extern "C" fn wenc_bytes(handle: *const Handle, bytes: *mut u8, len: usize) -> Status {
     let copy = |session: &Session| match session {
         Session::Building(_) | Session::ByHand(_) => {
-            Err(Refused::from(Status::Unfinished).of(c"handle"))
+            Err(CallError::from(Status::Unfinished).of(c"handle"))
         }
-        Session::Finished(whole) if whole.len() != len => Err(Refused::bad(c"len")),
-        Session::Finished(_) if bytes.is_null() => Err(Refused::bad(c"bytes")),
+        Session::Finished(whole) if whole.len() != len => Err(CallError::bad(c"len")),
+        Session::Finished(_) if bytes.is_null() => Err(CallError::bad(c"bytes")),
         Session::Finished(whole) => {
             unsafe { ptr::copy_nonoverlapping(whole.as_ptr(), bytes, len) };
             Ok(())
         }
-        _ => Err(session.refusal()),
+        _ => Err(session.wrong_handle()),
     };
     unsafe { read(handle, ptr::null_mut(), copy) }
 }

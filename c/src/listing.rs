@@ -3,7 +3,7 @@
 use crate::arguments::{copied, known, list};
 use crate::rows::{ItemRow, SectionRow};
 use crate::session::Session;
-use crate::{Handle, Refused, Result, Status, begin, calls, numbers, other, put, read};
+use crate::{CallError, Handle, Result, Status, begin, calls, numbers, other, put, read};
 use alloc::vec::Vec;
 use core::ffi::c_char;
 use core::fmt::{self, Write};
@@ -69,19 +69,19 @@ impl Listed {
 
     /// Returns the number of items in an index space.
     pub(crate) fn count(&self, space: Space) -> Result<u32> {
-        let count = u32::try_from(self.counts.of(space));
-        count.map_err(|_| Refused::from(Status::TooLarge).of(c"space"))
+        let count = u32::try_from(self.counts[space.number()]);
+        count.map_err(|_| CallError::from(Status::TooLarge).of(c"space"))
     }
 
     fn section(&self, number: usize) -> Result<&Section> {
-        self.sections.get(number).ok_or(Refused::bad(c"section"))
+        self.sections.get(number).ok_or(CallError::bad(c"section"))
     }
 
     /// Returns the index and the place of the item with this number in a section, and the item.
     fn item(&self, section: usize, number: usize) -> Result<(u64, Range<usize>, ItemView<'_>)> {
         let Section { row, before } = self.section(section)?;
         if number >= row.items {
-            return Err(Refused::bad(c"number"));
+            return Err(CallError::bad(c"number"));
         }
         // 32 bits: there is an item of this number.
         let Item { place, index } = self.items[*before + number];
@@ -289,7 +289,7 @@ pub unsafe extern "C" fn wenc_item_fault_text(
 fn listed(session: &Session) -> Result<&Listed> {
     match session {
         Session::Listed(listed) => Ok(listed),
-        _ => Err(session.refusal()),
+        _ => Err(session.wrong_handle()),
     }
 }
 
@@ -301,7 +301,7 @@ pub unsafe extern "C" fn wenc_section_at(
 ) -> Status {
     let row = |session| {
         let found = listed(session)?.section(number);
-        found.map(|section| section.row).map_err(|refused| refused.of(c"number"))
+        found.map(|section| section.row).map_err(|error| error.of(c"number"))
     };
     unsafe { read(handle, section, row) }
 }
@@ -319,15 +319,15 @@ pub unsafe extern "C" fn wenc_item_at(
 calls! {
     wenc_copy(debug_name: name, listing: *const Handle, section: usize, number: usize) -> index
         = |session| {
-        let of = |argument| move |refused: Refused| refused.of(argument);
+        let of = |argument| move |error: CallError| error.of(argument);
         let listing = other(session, listing).and_then(listed).map_err(of(c"listing"))?;
         let (.., item) = listing.item(section, number)?;
         add(session, debug_name, &item)
     };
     wenc_item(section: u32, debug_name: name, bytes[len]: u8) -> index = |session| {
         let section = known(c"section", numbers::section(section))?;
-        let item = read_item(section, bytes).map_err(|status| Refused::from(status).of(c"bytes"))?;
-        add(session, debug_name, &item)
+        let error = |status| CallError::from(status).of(c"bytes");
+        add(session, debug_name, &read_item(section, bytes).map_err(error)?)
     };
 }
 

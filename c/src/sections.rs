@@ -2,7 +2,7 @@
 
 use crate::arguments::{IndexName, Producer, known, list, text};
 use crate::session::Session;
-use crate::{Handle, Refused, Result, Status, calls, numbers, other};
+use crate::{CallError, Handle, Result, calls, numbers, other};
 use wenc::{
     ComponentNameSection, CustomSection, NameMap, ProducersField, ProducersSection,
     RawCustomSection, RawSection,
@@ -14,7 +14,7 @@ calls! {
     };
     wenc_raw_custom_section(bytes: *const u8, len: usize) = |session| {
         // They begin with their size, and may be longer than a size of 32 bits.
-        let bytes = list(bytes, len).map_err(|refused| refused.of(c"bytes"))?;
+        let bytes = list(bytes, len).map_err(|error| error.of(c"bytes"))?;
         match session {
             Session::Building(builder) => Ok(builder.try_raw_custom_section(bytes)?),
             _ => session.append(&RawCustomSection(bytes)).map(drop),
@@ -32,7 +32,7 @@ calls! {
     };
     wenc_append_names() = |session| Ok(session.builder()?.try_append_names()?);
     wenc_section(section: *const Handle) = |session| {
-        match other(session, section).map_err(|refused| refused.of(c"section"))? {
+        match other(session, section).map_err(|error| error.of(c"section"))? {
             Session::CoreInstances(section) => session.append(section).map(drop),
             Session::CoreTypes(section) => session.append(section).map(drop),
             Session::Instances(section) => session.append(section).map(drop),
@@ -42,7 +42,7 @@ calls! {
             Session::Imports(section) => session.append(section).map(drop),
             Session::Exports(section) => session.append(section).map(drop),
             Session::Names(section) => add_custom(session, &section.as_custom()),
-            _ => Err(Refused::bad(c"section")),
+            _ => Err(CallError::bad(c"section")),
         }
     };
     wenc_names_component(name[name_len]: text) = |session| {
@@ -54,7 +54,7 @@ calls! {
         let mut map = NameMap::new();
         for (member, named) in names.iter().enumerate() {
             let name = text(c"names", named.name, named.name_len);
-            map.try_append(named.index, name.map_err(|refused| refused.at(member))?)?;
+            map.try_append(named.index, name.map_err(|error| error.at(member))?)?;
         }
         Ok(section.try_names(space, &map)?)
     };
@@ -72,7 +72,7 @@ fn add_custom(session: &mut Session, section: &CustomSection<'_>) -> Result<()> 
 fn of_names(session: &mut Session) -> Result<&mut ComponentNameSection> {
     match session {
         Session::Names(section) => Ok(section),
-        _ => Err(session.refusal()),
+        _ => Err(session.wrong_handle()),
     }
 }
 
@@ -86,7 +86,7 @@ unsafe fn read_producers(producers: &[Producer]) -> Result<ProducersSection> {
         let mut field = ProducersField::new();
         for (member, tool) in tools.by_ref().take(group.len()) {
             let read = unsafe { tool.read() };
-            let (_, name, version) = read.map_err(|refused| refused.at(member))?;
+            let (_, name, version) = read.map_err(|error| error.at(member))?;
             field.try_value(name, version)?;
         }
         section.try_field(field_of(&group[0])?, &field)?;

@@ -2,7 +2,7 @@
 
 use crate::arguments::known;
 use crate::listing::Listed;
-use crate::{Refused, Result, Status};
+use crate::{CallError, Result, Status};
 use alloc::vec::Vec;
 use wenc::tree::Space;
 use wenc::view::ItemView;
@@ -59,7 +59,7 @@ macro_rules! declared {
         match $session {
             Self::ComponentType($to) => declared!($to, $space, $call),
             Self::InstanceType($to) => declared!($to, $space, $call),
-            _ => Err($session.refusal()),
+            _ => Err($session.wrong_handle()),
         }
     };
     ($to:ident, $space:expr, $call:expr) => {{
@@ -71,27 +71,27 @@ macro_rules! declared {
 
 impl Session {
     /// Returns why this session doesn't accept the call.
-    pub(crate) fn refusal(&self) -> Refused {
+    pub(crate) fn wrong_handle(&self) -> CallError {
         let status = match self {
             Self::Finished(_) => Status::Finished,
             _ => Status::BadArgument,
         };
-        Refused::from(status).of(c"handle")
+        CallError::from(status).of(c"handle")
     }
 
     /// Checks a debug name: only items of a builder may have one.
     pub(crate) fn take_name(&self, debug_name: Option<&str>) -> Result<()> {
         match (self, debug_name) {
             (Self::Building(_), _) | (_, None) => Ok(()),
-            (Self::Finished(_), _) => Err(self.refusal()),
-            _ => Err(Refused::bad(c"debug_name")),
+            (Self::Finished(_), _) => Err(self.wrong_handle()),
+            _ => Err(CallError::bad(c"debug_name")),
         }
     }
 
     pub(crate) fn builder(&mut self) -> Result<&mut ComponentBuilder> {
         match self {
             Self::Building(builder) => Ok(builder),
-            _ => Err(self.refusal()),
+            _ => Err(self.wrong_handle()),
         }
     }
 
@@ -106,7 +106,7 @@ impl Session {
                 declared!(to, Some(Space::from(ty.kind())), to.try_import(name, ty))
             }
             Self::Imports(section) => counted!(section => section.try_import(name, ty)),
-            _ => Err(self.refusal()),
+            _ => Err(self.wrong_handle()),
         }
     }
 
@@ -120,7 +120,7 @@ impl Session {
         match self {
             Self::Building(builder) => Ok(builder.try_export(name, kind, item, ty)?),
             Self::Exports(section) => counted!(section => section.try_export(name, kind, item, ty)),
-            _ => Err(self.refusal()),
+            _ => Err(self.wrong_handle()),
         }
     }
 
@@ -141,7 +141,7 @@ impl Session {
                 Alias::Outer { kind: ComponentOuterAliasKind::CoreType, count, index } => {
                     Ok(to.try_alias_core_type(count, index)?)
                 }
-                _ => Err(Refused::bad(c"kind")),
+                _ => Err(CallError::bad(c"kind")),
             },
             _ => {
                 let space = ItemView::Alias(alias).indices().map(|(space, _)| space);
@@ -161,7 +161,7 @@ impl Session {
             Self::ComponentType(to) => (to.type_count(), to.try_ty()?),
             Self::InstanceType(to) => (to.type_count(), to.try_ty()?),
             Self::Types(to) => (to.len(), to.try_ty()?),
-            _ => return Err(self.refusal()),
+            _ => return Err(self.wrong_handle()),
         };
         let written = write(encoder);
         self.settled(written, index)
@@ -201,7 +201,7 @@ impl Session {
             Self::ComponentType(to) => (to.core_type_count(), to.try_core_type()?),
             Self::InstanceType(to) => (to.core_type_count(), to.try_core_type()?),
             Self::CoreTypes(to) => (to.len(), to.try_ty()?),
-            _ => return Err(self.refusal()),
+            _ => return Err(self.wrong_handle()),
         })
     }
 
@@ -229,7 +229,7 @@ impl Session {
     pub(crate) fn append(&mut self, section: &impl ComponentSection) -> Result<u32> {
         match self {
             Self::ByHand(component) => Ok(component.try_section(section).map(|_| 0)?),
-            _ => Err(self.refusal()),
+            _ => Err(self.wrong_handle()),
         }
     }
 
@@ -241,7 +241,7 @@ impl Session {
             (Self::ComponentType(ty), _) => ty.count(space),
             (Self::InstanceType(ty), _) => ty.count(space),
             (Self::Listed(listed), _) => return listed.count(space),
-            _ => return Err(self.refusal()),
+            _ => return Err(self.wrong_handle()),
         };
         known(c"space", count)
     }
@@ -261,7 +261,7 @@ impl Session {
             Self::Imports(section) => section.len(),
             Self::Exports(section) => section.len(),
             Self::Listed(listed) => return Ok(listed.len()),
-            _ => return Err(self.refusal()),
+            _ => return Err(self.wrong_handle()),
         };
         Ok(usize::try_from(len).map_err(|_| Status::TooLarge)?)
     }
