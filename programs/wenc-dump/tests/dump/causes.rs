@@ -1,7 +1,7 @@
 //! Why items and sections can't be read, and from which byte on.
 
 use crate::corpus::components;
-use crate::values::Value;
+use crate::json_value::Value;
 use crate::{component, dump};
 use std::collections::BTreeSet;
 use wenc::{ComponentSection, Encode, ListFault, RawSection, Sections, Unread, list};

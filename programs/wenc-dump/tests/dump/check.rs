@@ -1,7 +1,7 @@
 //! Indices that are out of range, with `--check`.
 
 use crate::corpus::components;
-use crate::values::Value;
+use crate::json_value::Value;
 use crate::{FUNCTION, FUNCTION_TEXT, component, dump, expect, expect_of};
 
 /// A type, and items with indices that are out of range.

@@ -1,7 +1,7 @@
 //! What is printed of the components of the corpus.
 
 use crate::dump;
-use crate::values::Value;
+use crate::json_value::Value;
 use std::fs;
 use std::path::{Path, PathBuf};
 use wenc::tree::Space;

@@ -2,9 +2,9 @@
 
 use crate::causes::part_of;
 use crate::corpus::components;
+use crate::json_value::Value;
 use crate::random::Random;
 use crate::side_by_side::side_by_side;
-use crate::values::Value;
 use crate::{component, dump};
 use wenc::view::ItemView;
 use wenc::{CoreSection, CoreSections, DebugNames, ProducersReader, SectionReader, Sections, list};

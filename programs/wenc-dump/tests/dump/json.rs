@@ -1,6 +1,6 @@
 //! JSON of worked components and core modules.
 
-use crate::values::Value;
+use crate::json_value::Value;
 use crate::{FUNCTION, PROGRAM, component, dump, file, file_of, start};
 use std::path::Path;
 use std::process::Command;

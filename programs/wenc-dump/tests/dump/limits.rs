@@ -1,6 +1,6 @@
 //! Limited memory: the program reports that memory ran out, and has an exit status for that.
 
-use crate::values::Value;
+use crate::json_value::Value;
 use crate::{PROGRAM, component, file, file_of, start};
 use std::path::Path;
 use std::process::{Command, Output};

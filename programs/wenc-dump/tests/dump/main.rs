@@ -10,6 +10,7 @@ mod custom;
 mod faults;
 mod fuzz;
 mod json;
+mod json_value;
 // The limits are those of optimized code.
 #[cfg(all(target_os = "linux", not(debug_assertions)))]
 mod limits;
@@ -55,7 +56,7 @@ fn start(options: &[&str], file: &Path) -> Output {
 /// to standard output and to standard error.
 fn run(options: &[&str], bytes: &[u8], terminal: Terminal) -> (u8, String, String) {
     let mut out = Vec::new();
-    let (status, err) = run_into(&mut out, options, bytes, terminal);
+    let (status, err) = run_into(&mut out, &[options, &["-"]].concat(), bytes, terminal);
     (status, String::from_utf8(out).expect("text"), err)
 }
 
@@ -64,16 +65,16 @@ fn dump(options: &[&str], bytes: &[u8]) -> (u8, String, String) {
     run(options, bytes, Terminal::default())
 }
 
-/// Runs the program with this output. It is compiled once for all callers.
+/// Runs the program with these arguments, input and output. It is compiled once for all callers.
 fn run_into(
     mut out: &mut dyn Write,
-    options: &[&str],
+    arguments: &[&str],
     mut bytes: &[u8],
     terminal: Terminal,
 ) -> (u8, String) {
     let mut err = Vec::new();
     let mut streams = Streams { input: &mut bytes, out: &mut out, err: &mut err };
-    let arguments = ["wenc-dump"].iter().chain(options).chain(&["-"]).map(Into::into);
+    let arguments = ["wenc-dump"].iter().chain(arguments).map(Into::into);
     let status = wenc_dump::run(arguments, terminal, &mut streams);
     (status, String::from_utf8(err).expect("text"))
 }

@@ -9,27 +9,21 @@ use std::collections::BTreeSet;
 use std::fs;
 use std::io::{self, BufRead, BufReader, Write};
 use std::path::Path;
-use std::process::{Command, Output, Stdio};
+use std::process::{Command, Stdio};
 use wenc_dump::Terminal;
 
 const USAGE: &str = "usage: wenc-dump [OPTION]... FILE...\n";
 
-fn run(arguments: &[&str], input: &[u8]) -> Output {
-    let mut command = Command::new(PROGRAM);
-    command.args(arguments).stdin(Stdio::piped()).stdout(Stdio::piped()).stderr(Stdio::piped());
-    let mut child = command.spawn().expect("the program stands there");
-    let mut stdin = child.stdin.take().expect("it is a pipe");
-    stdin.write_all(input).expect("it has room");
-    drop(stdin);
-    child.wait_with_output().expect("it ends")
+/// Runs the program. Returns its exit status and what it writes to standard output and to standard
+/// error.
+fn run(arguments: &[&str], input: &[u8]) -> (u8, String, String) {
+    let mut out = Vec::new();
+    let (status, err) = run_into(&mut out, arguments, input, Terminal::default());
+    (status, String::from_utf8(out).expect("text"), err)
 }
 
-/// Checks the exit status and what the program writes to standard output and standard error.
-fn expect_run(arguments: &[&str], input: &[u8], (status, out, err): (i32, &str, &str)) {
-    let output = run(arguments, input);
-    assert_eq!(String::from_utf8_lossy(&output.stdout), out, "{arguments:?}");
-    assert_eq!(String::from_utf8_lossy(&output.stderr), err, "{arguments:?}");
-    assert_eq!(output.status.code(), Some(status), "{arguments:?}");
+fn expect_run(arguments: &[&str], input: &[u8], (status, out, err): (u8, &str, &str)) {
+    assert_eq!(run(arguments, input), (status, out.into(), err.into()), "{arguments:?}");
 }
 
 #[test]
@@ -64,13 +58,13 @@ fn the_words_for_sections_are_listed() {
     }
     let component = component(FUNCTION);
     for kind in KINDS.split(", ") {
-        assert!(run(&["--section", kind, "-"], &component).status.success(), "{kind}");
+        assert_eq!(run(&["--section", kind, "-"], &component).0, 0, "{kind}");
     }
 }
 
 /// The options that `--help` lists, those with a value with a `=`.
 fn listed_options() -> BTreeSet<String> {
-    let help = String::from_utf8(run(&["--help"], b"").stdout).expect("it is text");
+    let (_, help, _) = run(&["--help"], b"");
     let lines = help.lines().filter(|line| line.trim_start().starts_with('-'));
     let words = lines.flat_map(|line| line.split([' ', ',']).filter(|word| word.len() > 1));
     let options = words.filter(|word| word.starts_with('-'));
@@ -192,8 +186,7 @@ fn sections_are_those_of_the_file() {
 #[test]
 fn output_is_coloured_always_or_never() {
     let component = component(FUNCTION);
-    let output = run(&["--color=always", "-"], &component);
-    let out = String::from_utf8(output.stdout).expect("it is text");
+    let (_, out, _) = run(&["--color=always", "-"], &component);
     assert!(out.starts_with("\x1b[2m0x0..0x17\x1b[0m component, 23 bytes\n"), "{out}");
     for never in ["--color=never", "--color=auto"] {
         expect_run(&[never, "-"], &component, (0, FUNCTION_TEXT, ""));
@@ -220,9 +213,8 @@ fn lines_have_so_many_columns() {
 #[test]
 fn help_and_version() {
     for help in [&["--help"][..], &["-h"], &["-x", "-", "-h"]] {
-        let output = run(help, b"");
-        let out = String::from_utf8(output.stdout).expect("it is text");
-        assert!(output.status.success() && output.stderr.is_empty());
+        let (status, out, err) = run(help, b"");
+        assert_eq!((status, err.as_str()), (0, ""));
         assert!(out.starts_with(USAGE) && out.lines().all(|line| line.len() < 100));
         assert!(out.contains("standard input") && out.contains("\"fault\""), "{out}");
     }
@@ -238,9 +230,8 @@ fn standard_input_is_read() {
     let bad = "-: no component's header at 0x0: found an empty file\n";
     expect_run(&["-"], b"", (1, "", bad));
     // after `--` all are files, and this one doesn't exist
-    let output = run(&["--", "--json"], b"");
-    assert_eq!(output.status.code(), Some(1));
-    assert!(output.stderr.starts_with(b"--json: "));
+    let (status, _, err) = run(&["--", "--json"], b"");
+    assert!(status == 1 && err.starts_with("--json: "), "{err}");
 }
 
 #[test]
@@ -319,7 +310,8 @@ fn a_reader_that_leaves_ends_it_quietly() {
     for (options, len) in [(&[][..], FUNCTION_TEXT.len()), (&["--json"], 400)] {
         for room in 0..len {
             let mut out = Left(room);
-            let result = run_into(&mut out, options, &component(FUNCTION), Terminal::default());
+            let arguments = [options, &["-"]].concat();
+            let result = run_into(&mut out, &arguments, &component(FUNCTION), Terminal::default());
             assert_eq!(result, (0, String::new()), "{room}");
         }
     }
