@@ -27,10 +27,10 @@ static const wenc_text *named(const char *literal) {
 }
 
 /* Requires that the call succeeds and writes this index. */
-#define ADDS(call, wanted)                             \
+#define ADDS(call, expected)                             \
   do {                                                 \
     uint32_t index = 99;                               \
-    REQUIRE((call) == WENC_DONE && index == (wanted)); \
+    REQUIRE((call) == WENC_DONE && index == (expected)); \
   } while (0)
 
 /* An interface: a resource, a record, and a function of both. */
@@ -82,9 +82,9 @@ static void pass_others(wenc_handle *types, wenc_handle *builder) {
   REQUIRE(index == 7);
 }
 
-static void count(wenc_handle *types, enum wenc_space space, uint32_t wanted) {
+static void count(wenc_handle *types, enum wenc_space space, uint32_t expected) {
   uint32_t number;
-  REQUIRE(wenc_count(types, space, &number) == WENC_DONE && number == wanted);
+  REQUIRE(wenc_count(types, space, &number) == WENC_DONE && number == expected);
 }
 
 /* Builtins with options and with slots. */

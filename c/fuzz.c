@@ -344,12 +344,12 @@ static void begin_two(two *one) {
 /* Checks the sentence about a section that can't be read: it is cut off to the size. */
 static void check_sentence(const uint8_t *bytes, size_t len, size_t section, bool is_bad) {
   char text[256];
-  size_t size = below(sizeof text), wanted;
+  size_t size = below(sizeof text), expected;
   memset(text, 1, sizeof text);
-  wanted = wenc_fault_text(bytes, len, section, text, size);
-  REQUIRE((wanted > 0) == is_bad && wanted < sizeof text);
+  expected = wenc_fault_text(bytes, len, section, text, size);
+  REQUIRE((expected > 0) == is_bad && expected < sizeof text);
   REQUIRE(text[size] == 1);
-  if (size > 0) REQUIRE(strlen(text) == (wanted < size ? wanted : size - 1));
+  if (size > 0) REQUIRE(strlen(text) == (expected < size ? expected : size - 1));
   if (is_bad) said++;
 }
 
@@ -412,21 +412,21 @@ static void compare_walk(const uint8_t *bytes, size_t len) {
   wenc_listed_item item, row;
   wenc_unread unread;
   size_t sections, items;
-  enum wenc_status wanted = wenc_list(&listing, bytes, len, &unread);
+  enum wenc_status expected = wenc_list(&listing, bytes, len, &unread);
   enum wenc_status status = wenc_walk_begin(&walk, bytes, len);
   name = "walk";
   REQUIRE(unread.section <= unread.place && unread.place <= unread.cause && unread.cause <= len);
-  check_sentence(bytes, len, unread.section, wanted != WENC_DONE);
+  check_sentence(bytes, len, unread.section, expected != WENC_DONE);
   for (sections = 0; status == WENC_DONE; sections++) {
     if ((status = wenc_walk_section(&walk, &section)) != WENC_DONE) break;
-    if (wanted == WENC_DONE) {
+    if (expected == WENC_DONE) {
       REQUIRE(wenc_section_at(&listing, sections, &section_row) == WENC_DONE);
       REQUIRE(memcmp(&section, &section_row, offsetof(wenc_listed_section, id)) == 0);
     }
     for (items = 0; (status = wenc_walk_item(&walk, &item)) == WENC_DONE; items++) {
       read_items++;
       REQUIRE(check_nodes(&walk, &item) || item.section == WENC_SECTION_CUSTOM);
-      if (wanted != WENC_DONE) continue;
+      if (expected != WENC_DONE) continue;
       REQUIRE(wenc_item_at(&listing, sections, items, &row) == WENC_DONE);
       REQUIRE(row.place == item.place && row.len == item.len && row.space == item.space);
       REQUIRE(row.ref == item.ref && row.of == item.of && row.item == item.item);
@@ -436,7 +436,7 @@ static void compare_walk(const uint8_t *bytes, size_t len) {
       status = WENC_DONE;
     }
   }
-  REQUIRE(status == (wanted == WENC_DONE ? WENC_END : wanted));
+  REQUIRE(status == (expected == WENC_DONE ? WENC_END : expected));
   wenc_free(&listing);
 }
 
@@ -472,15 +472,15 @@ static void damage(const uint8_t *bytes, size_t len) {
 }
 
 static void finish(two *one) {
-  const uint8_t *bytes, *wanted;
-  size_t len = 77, wanted_len;
+  const uint8_t *bytes, *expected;
+  size_t len = 77, expected_len;
   enum wenc_status status = wenc_finish(&one->handle, &bytes, &len);
   name = "finish";
   until_refusal = -1;
   REQUIRE(status == WENC_DONE || (status == WENC_BAD_ARGUMENT && len == 77));
   if (status != WENC_DONE) return;
-  REQUIRE(wenc_finish(&one->shadow, &wanted, &wanted_len) == WENC_DONE);
-  REQUIRE(len == wanted_len && memcmp(bytes, wanted, len) == 0);
+  REQUIRE(wenc_finish(&one->shadow, &expected, &expected_len) == WENC_DONE);
+  REQUIRE(len == expected_len && memcmp(bytes, expected, len) == 0);
   compared++;
   compare_walk(bytes, len);
   damage(bytes, len);
@@ -488,7 +488,7 @@ static void finish(two *one) {
 
 /* Makes a call, and repeats it if it succeeds. */
 static void call_two(two *one, two *other) {
-  uint32_t number = below(CASES), index = 77, wanted = 77;
+  uint32_t number = below(CASES), index = 77, expected = 77;
   bool is_put = below(8) != 0;
   uint64_t before = state, after;
   enum wenc_status status = call(number, &one->handle, &other->handle, is_put ? &index : NULL);
@@ -503,8 +503,8 @@ static void call_two(two *one, two *other) {
   }
   accepted++;
   state = before;
-  REQUIRE(call(number, &one->shadow, &other->shadow, is_put ? &wanted : NULL) == WENC_DONE);
-  REQUIRE(index == wanted && state == after);
+  REQUIRE(call(number, &one->shadow, &other->shadow, is_put ? &expected : NULL) == WENC_DONE);
+  REQUIRE(index == expected && state == after);
   REQUIRE((other->handle.at == NULL) == (other->shadow.at == NULL));
 }
 

@@ -219,6 +219,16 @@ pub(crate) unsafe fn named<'a, T>(
     }))
 }
 
+/// Returns an iterator over the names, the kinds and the indices of items, as [`named`] does.
+pub(crate) unsafe fn items<'a, K>(
+    argument: &'static CStr,
+    parts: &'a [Part],
+    of: impl Fn(u32) -> Option<K> + 'a,
+) -> Result<impl ExactSizeIterator<Item = (&'a str, K, u32)>> {
+    let items = unsafe { named(argument, parts, move |kind, item| Some((of(kind)?, item))) }?;
+    Ok(items.map(|(name, (kind, item))| (name, kind, item)))
+}
+
 /// Returns an iterator over values without names, as [`named`] does.
 pub(crate) fn unnamed<'a, T>(
     argument: &'static CStr,

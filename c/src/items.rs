@@ -5,10 +5,7 @@ use crate::numbers::{maybe_type_ref, maybe_value, option, type_ref};
 use crate::session::{Session, counted};
 use crate::{CallError, Handle, Result, calls, numbers, other};
 use core::ffi::CStr;
-use wenc::{
-    Alias, ComponentExportKind, ComponentSectionId, ComponentStartSection, ExportKind, ModuleArg,
-    RawSection,
-};
+use wenc::{Alias, ComponentSectionId, ComponentStartSection, ModuleArg, RawSection};
 
 /// Makes the call of a builder or of a section for a number of `enum wenc_function`.
 macro_rules! builtin {
@@ -177,32 +174,24 @@ calls! {
         |to| to.try_core_instantiate(debug_name, module, args),
         CoreInstances: to.try_instantiate(module, args)
     );
-    wenc_core_exports(debug_name: name, exports[exports_len]: Part => named core_item) -> index
-        = |session| {
-        let exports = exports.map(|(name, (kind, item))| (name, kind, item));
-        builder_or!(
-            session,
-            |to| to.try_core_instantiate_exports(debug_name, exports),
-            CoreInstances: to.try_export_items(exports)
-        )
-    };
-    wenc_instantiate(debug_name: name, component: u32, args[args_len]: Part => named item) -> index
-        = |session| {
-        let args = args.map(|(name, (kind, item))| (name, kind, item));
-        builder_or!(
-            session,
-            |to| to.try_instantiate(debug_name, component, args),
-            Instances: to.try_instantiate(component, args)
-        )
-    };
-    wenc_export_items(debug_name: name, items[items_len]: Part => named item) -> index = |session| {
-        let items = items.map(|(name, (kind, item))| (name, kind, item));
-        builder_or!(
-            session,
-            |to| to.try_instantiate_exports(debug_name, items),
-            Instances: to.try_export_items(items)
-        )
-    };
+    wenc_core_exports(debug_name: name, exports[exports_len]: Part => items numbers::core_kind)
+        -> index = |session| builder_or!(
+        session,
+        |to| to.try_core_instantiate_exports(debug_name, exports),
+        CoreInstances: to.try_export_items(exports)
+    );
+    wenc_instantiate(debug_name: name, component: u32, args[args_len]: Part => items numbers::kind)
+        -> index = |session| builder_or!(
+        session,
+        |to| to.try_instantiate(debug_name, component, args),
+        Instances: to.try_instantiate(component, args)
+    );
+    wenc_export_items(debug_name: name, items[items_len]: Part => items numbers::kind) -> index
+        = |session| builder_or!(
+        session,
+        |to| to.try_instantiate_exports(debug_name, items),
+        Instances: to.try_export_items(items)
+    );
     wenc_component_ref(debug_name: name, nested: *const Handle) -> index = |session| {
         let nested = other(session, nested).map_err(|error| error.of(c"nested"))?;
         nest(session, debug_name, nested)
@@ -218,14 +207,6 @@ calls! {
 /// The argument of a core module that is a core instance. Its kind isn't used.
 fn instance(_: u32, instance: u32) -> Option<ModuleArg> {
     Some(ModuleArg::Instance(instance))
-}
-
-fn item(number: u32, item: u32) -> Option<(ComponentExportKind, u32)> {
-    Some((numbers::kind(number)?, item))
-}
-
-fn core_item(number: u32, item: u32) -> Option<(ExportKind, u32)> {
-    Some((numbers::core_kind(number)?, item))
 }
 
 /// Adds a component given as bytes.

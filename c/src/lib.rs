@@ -214,7 +214,7 @@ unsafe fn put<T>(at: *mut T, value: T) {
 /// - `name[name_len]: text`, a string in UTF-8, or `list[list_len]: T`, an array;
 /// - `debug_name: name`, a pointer to a string, or NULL;
 /// - `name: u32 => of` or `name[number, index] => of`, the value of one or two numbers, and
-///   `list[list_len]: Part => named of` or `Pair => unnamed of`, a list of such values.
+///   `list[list_len]: T => read of`, a list of such values, which [`arguments`]`::read` reads.
 ///
 /// The handle comes before them, and with `-> index`, a pointer for the index after them. The body
 /// takes the session and the arguments.

@@ -146,7 +146,7 @@ fn is_listed_so(bytes: &[u8], first: Option<ListFault>) {
         assert_eq!((status, row.cause, row.expected), (Status::Done, 0, [0; 32]));
         return;
     };
-    let (wanted, section, unread, cause) = parts(fault);
+    let (expected_status, section, unread, cause) = parts(fault);
     let (part, item, place) = match unread {
         None => (0, 0, section),
         Some(Unread::Count { place }) => (1, 0, place),
@@ -154,7 +154,7 @@ fn is_listed_so(bytes: &[u8], first: Option<ListFault>) {
         Some(Unread::Behind { place }) => (3, 0, place),
     };
     let (cause, expected, _) = cause.map_or((place, Vec::new(), ""), stop);
-    assert_eq!((status, row.section, row.place), (wanted, section, place), "{fault}");
+    assert_eq!((status, row.section, row.place), (expected_status, section, place), "{fault}");
     assert_eq!((row.part, row.item, row.cause), (part, item, cause), "{fault}");
     let is_set = |byte: &u8| row.expected[usize::from(byte / 8)] >> (byte % 8) & 1 == 1;
     assert_eq!((0..=255).filter(is_set).collect::<Vec<u8>>(), expected, "{fault}");
@@ -165,8 +165,8 @@ fn is_listed_so(bytes: &[u8], first: Option<ListFault>) {
 fn compare(bytes: &[u8], counts: &mut BTreeMap<&str, usize>) {
     let faults = faults(bytes);
     is_listed_so(bytes, faults.first().copied());
-    let wanted: Vec<Reported> = faults.iter().map(|fault| reported(bytes, *fault)).collect();
-    assert_eq!(walked(bytes), wanted);
+    let expected: Vec<Reported> = faults.iter().map(|fault| reported(bytes, *fault)).collect();
+    assert_eq!(walked(bytes), expected);
     for fault in faults {
         let kind = parts(fault).3.map_or("none", |cause| stop(cause).2);
         *counts.entry(kind).or_default() += 1;
@@ -248,9 +248,10 @@ fn any_place_is_taken() {
                 Err(fault) => Some(fault),
             });
         // the header begins at 0
-        let wanted = fault.filter(|_| section > 0).map_or(String::new(), |fault| fault.to_string());
-        assert_eq!(sentence(component, section), wanted, "{section}");
-        said += usize::from(!wanted.is_empty());
+        let expected =
+            fault.filter(|_| section > 0).map_or(String::new(), |fault| fault.to_string());
+        assert_eq!(sentence(component, section), expected, "{section}");
+        said += usize::from(!expected.is_empty());
     }
     assert_eq!(said, 14);
 }
@@ -327,8 +328,8 @@ fn causes_of_items_are_those_of_rust() {
                 }
                 for item in damage {
                     let fault = fault_of_item(id, &item);
-                    let (kind, wanted) = fault.unwrap_or(("none", String::new()));
-                    assert_eq!(sentence_of_item(id, &item), wanted);
+                    let (kind, expected) = fault.unwrap_or(("none", String::new()));
+                    assert_eq!(sentence_of_item(id, &item), expected);
                     *counts.entry(kind).or_insert(0_usize) += 1;
                 }
             }
@@ -366,8 +367,8 @@ fn sentences_of_items() {
         (12, b"\xff", ""),
         (u32::MAX, b"\xff", ""),
     ];
-    for (section, bytes, wanted) in rows {
-        assert_eq!(sentence_of_item(section, bytes), wanted, "{bytes:?}");
+    for (section, bytes, expected) in rows {
+        assert_eq!(sentence_of_item(section, bytes), expected, "{bytes:?}");
     }
     for (at, len) in [(EMPTY, 1), (b"a".as_ptr(), usize::MAX)] {
         let said = written(|to, size| unsafe { wenc_item_fault_text(8, at, len, to, size) });

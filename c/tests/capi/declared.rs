@@ -50,11 +50,11 @@ impl Types {
         for space in Space::ALL {
             let (mut count, number) = (77, space.number());
             let status = unsafe { wenc_count(at, number as u32, &mut count) };
-            let wanted = match self.spaces.contains(&space) {
+            let expected = match self.spaces.contains(&space) {
                 true => (Status::Done, self.counts[number]),
                 false => (Status::BadArgument, 77),
             };
-            assert_eq!((status, count), wanted);
+            assert_eq!((status, count), expected);
         }
         let mut len = 0;
         if self.spaces.len() > 1 {

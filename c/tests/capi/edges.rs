@@ -114,17 +114,17 @@ fn null_is_empty_or_nothing() {
         assert_eq!(wenc_finish(at, ptr::null_mut(), ptr::null_mut()), Status::Done);
         wenc_free(ptr::null_mut());
     }
-    let mut wanted = wenc::ComponentBuilder::default();
+    let mut expected = wenc::ComponentBuilder::default();
     let resource = wenc::ComponentTypeRef::Type(wenc::TypeBounds::SubResource);
-    wanted.import("", resource);
-    wanted.import("", resource);
-    wanted.type_defined(None).1.tuple([] as [wenc::ComponentValType; 0]);
-    wanted.type_defined(Some("")).1.flags([]);
-    wanted.core_module_raw(None, &[]);
-    wanted.start(0, Vec::new(), 0);
-    wanted.custom_section(&wenc::CustomSection { name: "".into(), data: (&[][..]).into() });
-    wanted.producers_section(&wenc::ProducersSection::new());
-    assert_eq!(builder.finished(), wanted.finish());
+    expected.import("", resource);
+    expected.import("", resource);
+    expected.type_defined(None).1.tuple([] as [wenc::ComponentValType; 0]);
+    expected.type_defined(Some("")).1.flags([]);
+    expected.core_module_raw(None, &[]);
+    expected.start(0, Vec::new(), 0);
+    expected.custom_section(&wenc::CustomSection { name: "".into(), data: (&[][..]).into() });
+    expected.producers_section(&wenc::ProducersSection::new());
+    assert_eq!(builder.finished(), expected.finish());
 }
 
 #[test]
@@ -272,18 +272,18 @@ fn faults_are_said() {
     let mut expected = [0; 32];
     expected[0] = 0x3f;
     assert_eq!((unread.cause, unread.expected), (17, expected));
-    let wanted = b"bad item 0 at 0xe in the section at 0xb: 0x09 at 0x11, where 0x00 to 0x05 is \
+    let expected = b"bad item 0 at 0xe in the section at 0xb: 0x09 at 0x11, where 0x00 to 0x05 is \
         expected";
-    for size in [0, 1, 2, wanted.len(), wanted.len() + 1, 120] {
+    for size in [0, 1, 2, expected.len(), expected.len() + 1, 120] {
         let (len, text) = said(bytes, 11, size);
-        let front = wanted.len().min(size.saturating_sub(1));
-        assert_eq!(len, wanted.len());
-        assert_eq!(&text[..front], &wanted[..front]);
+        let front = expected.len().min(size.saturating_sub(1));
+        assert_eq!(len, expected.len());
+        assert_eq!(&text[..front], &expected[..front]);
         assert!(size == 0 || text[front] == 0);
     }
     let at = ptr::null_mut();
     let len = unsafe { wenc_fault_text(bytes.as_ptr(), bytes.len(), 11, at, 9) };
-    assert_eq!(len, wanted.len());
+    assert_eq!(len, expected.len());
     // what is read, and no bytes
     for (bytes, section) in [(&bytes[..], 0), (bytes, 8), (bytes, 19), (bytes, 99)] {
         assert_eq!(said(bytes, section, 1), (0, vec![0]));

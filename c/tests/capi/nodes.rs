@@ -189,11 +189,11 @@ fn nodes_are_those_of_rust() {
         assert!(rows.len() >= trees.len());
         for (item, tree) in rows.iter().zip(&trees) {
             let (rows, status) = nodes(&begun(&component), item, usize::MAX);
-            let mut wanted = Vec::new();
-            expect(tree.node(), 0, None, &mut wanted);
-            tools += expect_tools(tree, &mut wanted);
+            let mut expected = Vec::new();
+            expect(tree.node(), 0, None, &mut expected);
+            tools += expect_tools(tree, &mut expected);
             assert_eq!(status, Status::Done);
-            assert_eq!(rows.iter().map(seen).collect::<Vec<_>>(), wanted);
+            assert_eq!(rows.iter().map(seen).collect::<Vec<_>>(), expected);
             members += are_in_place(&component, item, &rows);
             for row in &rows {
                 *kinds.entry(row.kind).or_insert(0_usize) += 1;

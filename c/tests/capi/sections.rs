@@ -16,10 +16,10 @@ use wenc_capi::{Handle, Status};
 
 /// A component with this call, in a builder and by hand, has these bytes after its header.
 #[track_caller]
-fn in_both(wanted: &[u8], call: impl Fn(*mut Handle) -> Status) {
+fn in_both(expected: &[u8], call: impl Fn(*mut Handle) -> Status) {
     for mut held in [Held::builder(), Held::by_hand()] {
         assert_eq!(call(held.at()), Status::Done);
-        assert!(held.finished()[8..] == *wanted);
+        assert!(held.finished()[8..] == *expected);
     }
 }
 

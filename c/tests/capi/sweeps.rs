@@ -170,11 +170,11 @@ fn with_items(row: &Call, size: &Size) -> Held {
     let mut section = Held::section(row.id.into());
     let names = [None, None, Some("name")];
     let made = names.map(|name| made(row, &mut section, name, size));
-    let (third, wanted) =
+    let (third, expected) =
         if row.own.is_some() { (Ok(2), 3) } else { (Err(Status::BadArgument), 2) };
     assert_eq!(made, [Ok(0), Ok(1), third], "{}", row.name);
     let mut len = 0;
-    assert_eq!((unsafe { wenc_len(section.at(), &mut len) }, len), (Status::Done, wanted));
+    assert_eq!((unsafe { wenc_len(section.at(), &mut len) }, len), (Status::Done, expected));
     section
 }
 
@@ -185,8 +185,8 @@ fn listed(bytes: &[u8], row: &Call) -> Held {
     let list = || unsafe { wenc_list(at, bytes.as_ptr(), bytes.len(), ptr::null_mut()) };
     let are_refused = (0..40).take_while(|n| {
         let (status, was_refused) = refusing(*n, list);
-        let wanted = if was_refused { Status::NoMemory } else { Status::Done };
-        assert_eq!(status, wanted, "{}", row.name);
+        let expected = if was_refused { Status::NoMemory } else { Status::Done };
+        assert_eq!(status, expected, "{}", row.name);
         was_refused
     });
     assert!(are_refused.count() > 0, "{}", row.name);
@@ -223,8 +223,8 @@ fn each_is_read_and_added_again() {
         assert_eq!(places, (0, row.id.into(), space, defined), "{}", row.name);
         is_described(&item, &(row.command)(Some(name.as_str().into()), &size));
         let (mut b, read) = (ComponentBuilder::default(), in_rust.items().next().expect("an item"));
-        let wanted = [(); 2].map(|()| b.item(Some(&name), read).unwrap_or(0));
-        assert_eq!(indices, wanted, "{}", row.name);
+        let expected = [(); 2].map(|()| b.item(Some(&name), read).unwrap_or(0));
+        assert_eq!(indices, expected, "{}", row.name);
         let counts = counts::counts(&b);
         b.append_names();
         assert!(finished(again) == (counts, b.finish()), "{}", row.name);

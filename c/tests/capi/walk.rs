@@ -301,18 +301,19 @@ fn names_in(data: &[u8]) -> (Vec<(u32, u32, &'static str)>, Status) {
 
 #[test]
 fn debug_names_are_read() {
-    let wanted = [(13, 0, "c"), (8, 0, "g"), (8, 255, ""), (12, 5, "\u{e9}")];
-    assert_eq!(names_in(NAMES), (wanted.to_vec(), Status::End));
+    let expected = [(13, 0, "c"), (8, 0, "g"), (8, 255, ""), (12, 5, "\u{e9}")];
+    assert_eq!(names_in(NAMES), (expected.to_vec(), Status::End));
     assert_eq!(names_in(b""), (Vec::new(), Status::End));
     // A subsection that exceeds the bytes, after another; a count of two before one name.
     let bad = |data| names_in(data);
-    assert_eq!(bad(b"\0\x02\x01c\x01\x03\x01"), (wanted[..1].to_vec(), Status::Malformed));
+    assert_eq!(bad(b"\0\x02\x01c\x01\x03\x01"), (expected[..1].to_vec(), Status::Malformed));
     assert_eq!(bad(b"\x01\x05\x01\x02\0\x01g"), (Vec::new(), Status::Malformed));
     assert_eq!(bad(b"\0\x02\x01\xff"), (Vec::new(), Status::Malformed));
     let mut names: NamesWalk = unsafe { mem::zeroed() };
-    for (name, wanted) in [(&b"component-name"[..], Status::Done), (b"name", Status::BadArgument)] {
+    for (name, expected) in [(&b"component-name"[..], Status::Done), (b"name", Status::BadArgument)]
+    {
         let (_bytes, item) = custom(name, NAMES);
-        assert_eq!(unsafe { wenc_walk_names(&mut names, &item) }, wanted);
+        assert_eq!(unsafe { wenc_walk_names(&mut names, &item) }, expected);
         let status = unsafe { wenc_walk_names(ptr::null_mut(), &item) };
         assert_eq!(status, Status::BadArgument);
     }
@@ -335,9 +336,9 @@ fn a_listing_has_the_rows_of_the_walk() {
         for item in 0..listed.items {
             let mut row: ItemRow = unsafe { mem::zeroed() };
             assert_eq!(unsafe { wenc_item_at(at, number, item, &mut row) }, Status::Done);
-            let wanted = next_item(&mut walk).expect("an item");
-            assert_eq!((places(&row), texts(row.name)), (places(&wanted), texts(wanted.name)));
-            assert_eq!((rest(&row), row.bytes_len), (rest(&wanted), wanted.bytes_len));
+            let expected = next_item(&mut walk).expect("an item");
+            assert_eq!((places(&row), texts(row.name)), (places(&expected), texts(expected.name)));
+            assert_eq!((rest(&row), row.bytes_len), (rest(&expected), expected.bytes_len));
             indices.push(row.index);
         }
         let status = unsafe { wenc_item_at(at, number, listed.items, ptr::null_mut()) };
@@ -384,10 +385,10 @@ fn readers_at_a_time() {
     struct Shared(*const Handle, *const Handle, *const Handle);
     unsafe impl Sync for Shared {}
     impl Shared {
-        fn read(&self, wanted: &[u8]) {
+        fn read(&self, expected: &[u8]) {
             let (mut builder, none) = (Held::builder(), ptr::null_mut());
             let (mut row, mut copy) = (unsafe { mem::zeroed() }, Vec::new());
-            copy.resize(wanted.len(), 0);
+            copy.resize(expected.len(), 0);
             for _ in 0..200 {
                 unsafe {
                     assert_eq!(wenc_item_at(self.0, 3, 2, &mut row), Status::Done);
@@ -399,7 +400,7 @@ fn readers_at_a_time() {
                     assert_eq!(wenc_type(types.at(), ptr::null(), self.2, none), Status::Done);
                     assert_eq!(types.finished()[8..], *b"\x07\x03\x01\x42\0");
                 }
-                assert_eq!(copy, wanted);
+                assert_eq!(copy, expected);
             }
             assert_eq!(builder.finished().len(), 8 + 5 + 200 * 11);
         }
@@ -416,11 +417,11 @@ fn readers_at_a_time() {
         );
     }
     assert_eq!(unsafe { wenc_finish(finished.at(), &mut at, &mut len) }, Status::Done);
-    let wanted = b"\0asm\x0d\0\x01\0\x01\x03xyz";
+    let expected = b"\0asm\x0d\0\x01\0\x01\x03xyz";
     let shared = Shared(listing.at(), finished.at(), types.at());
     std::thread::scope(|scope| {
         for _ in 0..4 {
-            scope.spawn(|| shared.read(wanted));
+            scope.spawn(|| shared.read(expected));
         }
     });
 }
@@ -484,13 +485,13 @@ fn names_of_items(rows: &[ItemRow]) -> BTreeMap<(u32, u32), &'static str> {
 /// The rows of a walk are what Rust reads, and so are the debug names. Returns how many items and
 /// names there are.
 fn is_read_as_in_rust(bytes: &[u8], sections: Sections<'_>) -> (usize, usize) {
-    let wanted: Vec<_> = sections.items().map_while(Result::ok).collect();
+    let expected: Vec<_> = sections.items().map_while(Result::ok).collect();
     let is_whole = sections.items().all(|item| item.is_ok());
     let (rows, items, status) = walked(bytes);
-    assert_eq!((items.len(), status == Status::End), (wanted.len(), is_whole));
+    assert_eq!((items.len(), status == Status::End), (expected.len(), is_whole));
     let read = sections.map(|read| read.expect("a section"));
     rows.into_iter().zip(read).for_each(|(row, read)| is_section(row, &read));
-    items.iter().zip(wanted).for_each(|(row, (range, view))| is_item(row, range, view));
+    items.iter().zip(expected).for_each(|(row, (range, view))| is_item(row, range, view));
     let (names, all) = (names_of_items(&items), sections.names());
     let of_items = all.iter().map(|(space, index, name)| ((space.number() as u32, index), name));
     let all = of_items.chain(all.component().map(|name| ((13, 0), name)));

@@ -74,10 +74,10 @@ fn printed(item: &ItemTree, indices: &[Seen]) -> String {
 fn expect(item: ItemTree, indices: &[Seen]) {
     let text = printed(&item, indices);
     let mut printed: Vec<&str> = text.split('"').filter(|part| part.starts_with('@')).collect();
-    let mut wanted: Vec<String> = indices.iter().filter_map(named).collect();
+    let mut expected: Vec<String> = indices.iter().filter_map(named).collect();
     printed.sort_unstable();
-    wanted.sort_unstable();
-    assert_eq!(printed, wanted, "{text}");
+    expected.sort_unstable();
+    assert_eq!(printed, expected, "{text}");
     // each name follows its index
     for seen in indices {
         if let Some(name) = named(seen) {

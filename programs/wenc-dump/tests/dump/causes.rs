@@ -65,14 +65,17 @@ fn causes_in_long_items_are_those_in_short_ones() {
     ];
     for (tag, member, places) in members {
         for from_end in places {
-            let wanted = cause_from_end(7, list_of(tag, 1, member), *from_end, 0x41);
-            assert!(wanted.0 == *from_end && !wanted.1.is_empty(), "{member:02x?}: {wanted:02x?}");
+            let expected = cause_from_end(7, list_of(tag, 1, member), *from_end, 0x41);
+            assert!(
+                expected.0 == *from_end && !expected.1.is_empty(),
+                "{member:02x?}: {expected:02x?}"
+            );
             for number in [130, 400, 20_000] {
                 let long = list_of(tag, number, member);
                 // in an instance type, after a handle
                 let nested = [b"\x42\x02\x01\x68\0\x01", &long[..]].concat();
                 for item in [long, nested] {
-                    assert_eq!(cause_from_end(7, item, *from_end, 0x41), wanted, "{member:02x?}");
+                    assert_eq!(cause_from_end(7, item, *from_end, 0x41), expected, "{member:02x?}");
                 }
             }
         }
@@ -86,8 +89,8 @@ fn long_names_are_passed_over() {
         let mut import = vec![0];
         "x".repeat(size).encode(&mut import);
         import.extend([1, 0]);
-        let wanted = (2, vec![0, 1, 2, 3, 4, 5]);
-        assert_eq!(cause_from_end(10, import, 2, 0x41), wanted, "{size}");
+        let expected = (2, vec![0, 1, 2, 3, 4, 5]);
+        assert_eq!(cause_from_end(10, import, 2, 0x41), expected, "{size}");
     }
 }
 
@@ -214,9 +217,9 @@ const KINDS: [(&[u8], &str); 12] = [
 fn kinds_of_damage_are_told_apart() {
     let item = "bad item 0 at 0xb in the section at 0x8: ";
     let rows = ITEMS.map(|row| (item, row)).into_iter().chain(KINDS.map(|row| ("", row)));
-    for (front, (sections, wanted)) in rows {
+    for (front, (sections, expected)) in rows {
         let (status, _, err) = dump(&[], &file_of(sections));
-        assert_eq!((err, status), (format!("-: {front}{wanted}\n"), 1), "{sections:02x?}");
+        assert_eq!((err, status), (format!("-: {front}{expected}\n"), 1), "{sections:02x?}");
     }
 }
 

@@ -54,8 +54,8 @@ fn the_corpus() {
         panic!("{}: written", path.display());
     }
     let stored = fs::read_to_string(path).expect("it is there");
-    for (is, wanted) in lines.lines().zip(stored.lines()) {
-        assert_eq!(is, wanted);
+    for (is, expected) in lines.lines().zip(stored.lines()) {
+        assert_eq!(is, expected);
     }
     let faults = lines.lines().filter(|line| line.contains(" in the section at ")).count();
     assert_eq!((lines.lines().count(), stored.lines().count(), faults), (46, 46, 6));

@@ -44,7 +44,7 @@ fn items_are_as_serde_would_write_them() {
         \x03\x09\x01\x50\x01\x03\x01m\x02\0\x01\
         \x03\x05\x01\x60\x01\x7f\0\
         \x07\x0c\x01\x41\x02\x03\0\x01m\x01\0\x01\x70\x7d";
-    let wanted = [
+    let expected = [
         r#"{"function":0,"args":[3],"results":2}"#,
         r#"{"CoreInstanceExport":{"instance":2,"kind":"Func","name":"a"}}"#,
         r#"{"Lift":{"core_func":5,"ty":2,"options":["UTF8",{"Memory":1}]}}"#,
@@ -58,9 +58,9 @@ fn items_are_as_serde_would_write_them() {
     ];
     let (_, out, _) = dump(&["--json"], &component(sections));
     let items: Vec<&str> = out.split("\"item\":").skip(1).collect();
-    assert_eq!(items.len(), wanted.len());
-    for (is, wanted) in items.iter().zip(wanted) {
-        assert!(is.starts_with(wanted), "{is}");
+    assert_eq!(items.len(), expected.len());
+    for (is, expected) in items.iter().zip(expected) {
+        assert!(is.starts_with(expected), "{is}");
     }
     let end = r#""external_id":"id"}},"kind":"Func","index":0,"ty":{"Func":7}}}"#;
     assert!(items[4].contains(end), "{out}");

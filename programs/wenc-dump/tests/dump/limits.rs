@@ -55,9 +55,9 @@ fn sweep(file: &Path) -> (usize, usize) {
 }
 
 /// Expects that memory runs out under at least this many limits.
-fn expect_refusals(file: &Path, wanted: usize) {
+fn expect_refusals(file: &Path, expected: usize) {
     let (least, _) = sweep(file);
-    assert!(least >= wanted, "{}: {least}", file.display());
+    assert!(least >= expected, "{}: {least}", file.display());
 }
 
 /// Expects that the file takes the memory for its bytes, and no more but two steps.

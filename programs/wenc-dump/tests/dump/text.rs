@@ -259,7 +259,7 @@ fn names_texts_and_places_have_colours() {
     let types = b"\x07\x0a\x02\x69\0\x6d\x02\x01a\x02bc";
     let names = [b"\0\x66\x0ecomponent-name\x01\x55\x03\x01\0\x51", long.as_bytes()].concat();
     let (out, status) = printed(&[types, &names[..], b"\x06\x05\x01"].concat(), &[], true);
-    let wanted = format!(
+    let expected = format!(
         "\
 \x1b[2m0x0..0x7f\x1b[0m component, 127 bytes
   \x1b[2m0x8..0x14\x1b[0m type section, 12 bytes, 2 items
@@ -274,7 +274,7 @@ fn names_texts_and_places_have_colours() {
     \x1b[2m0x7c:\x1b[0m 06 05 01
 "
     );
-    assert_eq!((out, status), (wanted, 1));
+    assert_eq!((out, status), (expected, 1));
     let (out, _) = printed(FUNCTION, &["-x"], true);
     assert!(out.contains("\n      \x1b[2m0x12:\x1b[0m 00 01 66 01 00\n"), "{out}");
 }
