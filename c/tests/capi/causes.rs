@@ -237,9 +237,9 @@ fn causes_are_those_of_rust() {
 /// Reading continues from an offset at which no section begins, as in Rust, or there is no
 /// sentence.
 #[test]
-fn any_place_is_taken() {
+fn any_offset_is_accepted() {
     let component = b"\0asm\x0d\0\x01\0\x07\x05\x01\x40\0\x01\0\x0a\x06\x01\0\x01f\x09\0";
-    let mut said = 0;
+    let mut count = 0;
     for section in (0..=component.len() + 2).chain([usize::MAX - 1, usize::MAX]) {
         let fault = Sections::at(component, section)
             .and_then(|mut sections| sections.next())
@@ -251,16 +251,16 @@ fn any_place_is_taken() {
         let expected =
             fault.filter(|_| section > 0).map_or(String::new(), |fault| fault.to_string());
         assert_eq!(sentence(component, section), expected, "{section}");
-        said += usize::from(!expected.is_empty());
+        count += usize::from(!expected.is_empty());
     }
-    assert_eq!(said, 14);
+    assert_eq!(count, 14);
 }
 
 /// There is no sentence for a range out of bounds, and empty bytes are a component without a
 /// header.
 #[test]
-fn bytes_that_are_none() {
-    let said = |bytes, len| {
+fn invalid_ranges_have_no_sentence() {
+    let sentence_of = |bytes, len| {
         let mut text = [1_u8; 50];
         let at = text.as_mut_ptr().cast();
         let needed = unsafe { wenc_fault_text(bytes, len, 0, at, text.len()) };
@@ -270,12 +270,12 @@ fn bytes_that_are_none() {
         String::from_utf8(text[..needed].to_vec()).expect("it is UTF-8")
     };
     let header = "no component's header at 0x0: found nothing";
-    assert_eq!(said(EMPTY, 0), header);
-    assert_eq!(said(b"".as_ptr(), 0), header);
+    assert_eq!(sentence_of(EMPTY, 0), header);
+    assert_eq!(sentence_of(b"".as_ptr(), 0), header);
     for len in [1, 8, usize::MAX] {
-        assert_eq!(said(EMPTY, len), "");
+        assert_eq!(sentence_of(EMPTY, len), "");
     }
-    assert_eq!(said(b"a".as_ptr(), usize::MAX), "");
+    assert_eq!(sentence_of(b"a".as_ptr(), usize::MAX), "");
 }
 
 /// Why the bytes aren't one item, or the data of a custom section can't be read, by Rust: what is
@@ -371,7 +371,7 @@ fn sentences_of_items() {
         assert_eq!(sentence_of_item(section, bytes), expected, "{bytes:?}");
     }
     for (at, len) in [(EMPTY, 1), (b"a".as_ptr(), usize::MAX)] {
-        let said = written(|to, size| unsafe { wenc_item_fault_text(8, at, len, to, size) });
-        assert_eq!(said, "");
+        let text = written(|to, size| unsafe { wenc_item_fault_text(8, at, len, to, size) });
+        assert_eq!(text, "");
     }
 }

@@ -254,7 +254,7 @@ fn what_is_not_read_is_put_out() {
 }
 
 /// The sentence on why the section at this offset can't be read, written to a buffer of this size.
-fn said(bytes: &[u8], section: usize, size: usize) -> (usize, Vec<u8>) {
+fn fault_text(bytes: &[u8], section: usize, size: usize) -> (usize, Vec<u8>) {
     let mut text = [1; 120];
     let at = text.as_mut_ptr().cast();
     let len = unsafe { wenc_fault_text(bytes.as_ptr(), bytes.len(), section, at, size) };
@@ -263,7 +263,7 @@ fn said(bytes: &[u8], section: usize, size: usize) -> (usize, Vec<u8>) {
 }
 
 #[test]
-fn faults_are_said() {
+fn faults_are_written() {
     // an import of an unknown kind
     let bytes = b"\0asm\x0d\0\x01\0\x06\x01\0\x0a\x06\x01\0\x01f\x09\x01";
     let (mut unread, mut listing) = (UnreadPart::default(), Held::nothing());
@@ -275,7 +275,7 @@ fn faults_are_said() {
     let expected = b"bad item 0 at 0xe in the section at 0xb: 0x09 at 0x11, where 0x00 to 0x05 is \
         expected";
     for size in [0, 1, 2, expected.len(), expected.len() + 1, 120] {
-        let (len, text) = said(bytes, 11, size);
+        let (len, text) = fault_text(bytes, 11, size);
         let front = expected.len().min(size.saturating_sub(1));
         assert_eq!(len, expected.len());
         assert_eq!(&text[..front], &expected[..front]);
@@ -286,12 +286,12 @@ fn faults_are_said() {
     assert_eq!(len, expected.len());
     // what is read, and no bytes
     for (bytes, section) in [(&bytes[..], 0), (bytes, 8), (bytes, 19), (bytes, 99)] {
-        assert_eq!(said(bytes, section, 1), (0, vec![0]));
+        assert_eq!(fault_text(bytes, section, 1), (0, vec![0]));
     }
     assert_eq!(unsafe { wenc_fault_text(EMPTY, 8, 0, at, 0) }, 0);
     let header = b"no component's header at 0x0: found nothing";
-    assert_eq!(said(b"", 0, 44), (43, [&header[..], b"\0"].concat()));
+    assert_eq!(fault_text(b"", 0, 44), (43, [&header[..], b"\0"].concat()));
     let text = b"bad section at 0x8: needs 5 bytes or more from 0xa on, where 1 is left\0";
-    let (len, said) = said(b"\0asm\x0d\0\x01\0\x06\x05\x01", 8, text.len());
-    assert_eq!((len, &said[..]), (text.len() - 1, &text[..]));
+    let (len, written) = fault_text(b"\0asm\x0d\0\x01\0\x06\x05\x01", 8, text.len());
+    assert_eq!((len, &written[..]), (text.len() - 1, &text[..]));
 }

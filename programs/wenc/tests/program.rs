@@ -1,4 +1,4 @@
-//! The program `wenc`: what it prints, its statuses, and what it says on standard error.
+//! The program `wenc`: its output, its exit status, and its messages on standard error.
 
 #[allow(dead_code, reason = "some is for the other program")]
 #[path = "program/completions.rs"]
@@ -32,7 +32,7 @@ fn run(command: &mut Command, input: &[u8]) -> Output {
     })
 }
 
-/// Runs the program, which has this status, prints this, and says that on standard error.
+/// Runs the program, and checks its exit status, its output and its messages on standard error.
 fn expect<A: AsRef<OsStr>>(
     args: impl IntoIterator<Item = A>,
     input: &[u8],
@@ -49,7 +49,7 @@ const NO_ARGUMENTS: [&str; 0] = [];
 
 const COUNTS: &str = "10 1\n11 1\n0 0 0 0 0 0 0 0 2 0 0 0 0\n";
 
-/// Arguments and an input, with the status, what is printed, and what is said.
+/// Arguments and an input, with the exit status, the output and the messages.
 type Run = (&'static [&'static str], &'static str, (i32, &'static str, &'static str));
 
 const RUNS: [Run; 10] = [
@@ -83,7 +83,7 @@ fn scripts_are_run_and_components_listed() {
 
 #[cfg(unix)]
 #[test]
-fn arguments_that_are_no_text_have_the_usage_told() {
+fn arguments_that_are_not_utf_8_have_the_usage_printed() {
     use std::os::unix::ffi::OsStrExt;
     use std::os::unix::process::CommandExt;
     let no_text = OsStr::from_bytes(b"\xff");
@@ -96,8 +96,8 @@ fn arguments_that_are_no_text_have_the_usage_told() {
     assert_eq!((output.status.code(), &output.stdout[..]), (Some(0), &b"0061736d0d000100\n"[..]));
 }
 
-/// A device that is full takes no byte. (A pipe whose reader is gone isn't certain to refuse: a
-/// process that another test starts at that moment has its reader too.)
+/// A full device accepts no byte. (A write to a pipe without a reader isn't certain to fail: a
+/// process that another test starts at that moment inherits the reader.)
 #[cfg(target_os = "linux")]
 #[test]
 fn writes_that_fail_have_a_status() {

@@ -51,10 +51,10 @@ const KINDS: &str = "custom, core-module, core-instance, core-type, component, i
 #[test]
 fn the_words_for_sections_are_listed() {
     for kind in ["imports", "256", "", "core"] {
-        let said = format!(
+        let message = format!(
             "wenc-dump: no value of --section: {kind}\nit takes an id, or one of {KINDS}\n{USAGE}"
         );
-        expect_run(&[&format!("--section={kind}"), "-"], b"", (2, "", &said));
+        expect_run(&[&format!("--section={kind}"), "-"], b"", (2, "", &message));
     }
     let component = component(FUNCTION);
     for kind in KINDS.split(", ") {

@@ -43,7 +43,7 @@ fn is_listing(shell: &str, line: &str) -> bool {
     if shell == "bash" { line.starts_with("words=\"-") } else { line.starts_with(['\'', '"']) }
 }
 
-/// The options that a line has as they are typed, before what is said of them.
+/// The options of a line as they are typed, before their description.
 fn typed(line: &str) -> Vec<String> {
     let line = line.split('[').next().expect("it isn't empty");
     let words = line.split(|c: char| !c.is_alphanumeric() && !"-=".contains(c));
@@ -51,7 +51,7 @@ fn typed(line: &str) -> Vec<String> {
 }
 
 /// The options that a line of fish declares: `-s` is before a letter, `-l` before a word, and `-x`
-/// says that there is a value.
+/// marks one with a value.
 fn of_fish(line: &str) -> Vec<String> {
     let words: Vec<&str> = line.split(' ').collect();
     let value = if words.contains(&"-x") { "=" } else { "" };
@@ -63,7 +63,7 @@ fn of_fish(line: &str) -> Vec<String> {
     declared.collect()
 }
 
-/// Each shell that is here reads its file without an error.
+/// Checks that each installed shell reads its file without an error.
 pub fn are_read_by_shells(program: &str) {
     for (shell, path) in paths(program) {
         match Command::new(shell).arg("-n").arg(&path).output() {
@@ -76,8 +76,7 @@ pub fn are_read_by_shells(program: &str) {
     }
 }
 
-/// Calls the function that completes the last of the words after a program's name, as bash calls
-/// it, if that is here.
+/// Checks the completions of the last of these words after a program's name, if bash is installed.
 #[cfg(unix)]
 pub fn bash_gives(program: &str, words: &[&str], found: &[&str]) {
     let [(_, path), ..] = paths(program);

@@ -30,8 +30,7 @@ fn room(name: &str) -> PathBuf {
     room
 }
 
-/// Runs the examples of a program's page, of which there are so many, with the program in reach
-/// under its name.
+/// Runs the examples of a program's page, of which there are `number`, with the program in `PATH`.
 pub fn run(name: &str, program: &str, number: usize) {
     let room = room(name);
     let link = room.join(name);
