@@ -1,7 +1,7 @@
 //! Walks through custom sections.
 
 use super::cause::Cause;
-use super::fault::{Failure, Fault};
+use super::fault::{Failure, Fault, Kind};
 use super::report::{Contents, Entry, Part, Report};
 use super::walk::Walk;
 use std::ops::Range;
@@ -54,8 +54,9 @@ impl<R: Report> Walk<'_, '_, R> {
         match read {
             Ok(()) => Ok(()),
             Err(NamesFault::BadSubsection { place, cause }) => {
-                let cause = Cause::Read(cause.moved(data.start));
-                Ok(self.unread(Fault::Names(data.start + place, cause), data.end, true)?)
+                let cause = Some(Cause::Read(cause.moved(data.start)));
+                let fault = Fault::new(Kind::Names, data.start + place, cause);
+                Ok(self.unread(fault, data.end, true)?)
             }
             Err(_) => Err(Failure::NoMemory),
         }
@@ -67,8 +68,9 @@ impl<R: Report> Walk<'_, '_, R> {
             match tool {
                 Ok(tool) => self.entry(Entry::Tool(tool))?,
                 Err(ProducersFault { place, cause }) => {
-                    let (end, cause) = (start + data.len(), Cause::Read(cause.moved(start)));
-                    self.unread(Fault::Producers(start + place, cause), end, true)?;
+                    let cause = Some(Cause::Read(cause.moved(start)));
+                    let fault = Fault::new(Kind::Producers, start + place, cause);
+                    self.unread(fault, start + data.len(), true)?;
                 }
             }
         }

@@ -2,6 +2,7 @@
 
 use super::cause::Cause;
 use super::sizes::WrongSize;
+use super::walk::DEPTH;
 use super::wit::Unwritten;
 use super::words::Counted;
 use std::collections::TryReserveError;
@@ -14,103 +15,118 @@ pub const NO_MEMORY: u8 = 3;
 
 /// A part of a file that can't be read.
 #[derive(Debug)]
-pub enum Fault {
+pub struct Fault {
+    kind: Kind,
+    /// The byte offset of the part.
+    pub place: Option<usize>,
+    /// Why the part can't be read, and from which byte on.
+    pub cause: Option<Cause>,
+}
+
+/// The kind of a part that can't be read.
+#[derive(Debug)]
+pub enum Kind {
     /// The file, which can't be opened or read.
     Input(io::Error),
     /// The part for which an allocation failed, and all that follows.
     NoMemory,
-    /// A section, an item or a nested component, in a component, and why.
-    List(ListFault, Option<Cause>),
-    /// A core module, or a section or an item of it, at this byte offset, and why.
-    Module(usize, ModuleFault, Option<Cause>),
-    /// A section at this byte offset with this unknown id.
-    UnknownSection(usize, u8),
-    /// A custom section without a name, at this byte offset, and why.
-    NoName(usize, Option<Cause>),
+    /// A section, an item or a nested component, in a component.
+    List(ListFault),
+    /// A core module, or a section or an item of it.
+    Module(ModuleFault),
+    /// A section with this unknown id.
+    UnknownSection(u8),
+    /// A custom section without a name.
+    NoName,
     /// A section with a wrong size.
     Size(WrongSize),
-    /// The component at this byte offset, which is nested this deep.
-    TooDeep(usize, usize),
-    /// Debug names, from this byte offset on, and why.
-    Names(usize, Cause),
-    /// Producers, from this byte offset on, and why.
-    Producers(usize, Cause),
-    /// The number of indices that are out of range.
+    /// A component that is nested too deep.
+    TooDeep,
+    /// Debug names.
+    Names,
+    /// Producers.
+    Producers,
+    /// This many indices that are out of range.
     OutOfRange(usize),
     /// A part of a component's world that isn't written as WIT.
     Unwritten(Unwritten),
 }
 
+impl From<Kind> for Fault {
+    fn from(kind: Kind) -> Self {
+        Self { kind, place: None, cause: None }
+    }
+}
+
+impl From<ListFault> for Fault {
+    fn from(fault: ListFault) -> Self {
+        let (place, unread, cause) = match fault {
+            ListFault::NotAComponent { place, .. } => (place, None, None),
+            ListFault::BadSection { place, cause } => (place, None, cause),
+            ListFault::BadItem { place, unread, cause, .. }
+            | ListFault::TooDeep { place, unread, cause } => (place, unread, cause),
+            _ => return Kind::NoMemory.into(),
+        };
+        let place = unread.map_or(place, place_of);
+        Self::new(Kind::List(fault), place, cause.map(Cause::Read))
+    }
+}
+
 impl Fault {
+    /// Creates the fault of a part at this byte offset.
+    pub fn new(kind: Kind, place: usize, cause: Option<Cause>) -> Self {
+        Self { kind, place: Some(place), cause }
+    }
+
     /// Converts the error of opening or reading a file.
     pub fn of_input(error: io::Error) -> Self {
-        if error.kind() == io::ErrorKind::OutOfMemory { Self::NoMemory } else { Self::Input(error) }
+        if error.kind() == io::ErrorKind::OutOfMemory { Kind::NoMemory } else { Kind::Input(error) }
+            .into()
     }
 
     /// Converts the fault of the core module at this byte offset, whose header has this cause.
     pub fn of_module(at: usize, fault: ModuleFault, cause: Option<Cause>) -> Self {
-        match fault {
-            ModuleFault::BadSection { place, cause: why } => {
-                let place = at + place;
-                Self::Module(place, ModuleFault::BadSection { place, cause: why.moved(at) }, cause)
+        let (fault, place, cause) = match fault {
+            ModuleFault::BadSection { place, cause } => {
+                let (place, cause) = (at + place, cause.moved(at));
+                (ModuleFault::BadSection { place, cause }, place, Some(Cause::Read(cause)))
             }
-            ModuleFault::BadItem { unread, cause: why } => {
-                let (unread, why) = (moved(unread, at), why.map(|why| why.moved(at)));
-                let fault = ModuleFault::BadItem { unread, cause: why };
-                Self::Module(place_of(unread), fault, cause)
+            ModuleFault::BadItem { unread, cause } => {
+                let (unread, cause) = (moved(unread, at), cause.map(|cause| cause.moved(at)));
+                let fault = ModuleFault::BadItem { unread, cause };
+                (fault, place_of(unread), cause.map(Cause::Read))
             }
-            fault => Self::Module(at, fault, cause),
-        }
+            fault => (fault, at, cause),
+        };
+        Self::new(Kind::Module(fault), place, cause)
     }
 
     /// Returns the part of a section that can't be read.
     fn unread(&self) -> Option<Unread> {
-        match *self {
-            Self::List(
-                ListFault::BadItem { unread, .. } | ListFault::TooDeep { unread, .. },
-                _,
-            ) => unread,
-            Self::Module(_, ModuleFault::BadItem { unread, .. }, _) => Some(unread),
-            _ => None,
-        }
-    }
-
-    /// Returns the byte offset of the part.
-    pub fn place(&self) -> Option<usize> {
-        match *self {
-            Self::List(
-                ListFault::NotAComponent { place, .. }
-                | ListFault::BadSection { place, .. }
-                | ListFault::BadItem { place, .. }
-                | ListFault::TooDeep { place, .. },
-                _,
-            ) => Some(self.unread().map_or(place, place_of)),
-            Self::Module(place, _, _)
-            | Self::UnknownSection(place, _)
-            | Self::NoName(place, _)
-            | Self::Size(WrongSize { place, .. })
-            | Self::TooDeep(place, _)
-            | Self::Names(place, _)
-            | Self::Producers(place, _) => Some(place),
+        match self.kind {
+            Kind::List(ListFault::BadItem { unread, .. } | ListFault::TooDeep { unread, .. }) => {
+                unread
+            }
+            Kind::Module(ModuleFault::BadItem { unread, .. }) => Some(unread),
             _ => None,
         }
     }
 
     /// Returns the words for the part, which follow its byte offset in text.
     pub fn words(&self) -> &'static str {
-        match (self.unread(), self) {
+        match (self.unread(), &self.kind) {
             (Some(Unread::Count { .. }), _) => "no count",
             (Some(Unread::Behind { .. }), _) => "bytes behind the last item",
-            (_, Self::List(ListFault::NotAComponent { .. }, _)) => "no component's header",
-            (_, Self::List(ListFault::BadSection { .. }, _)) => "no section",
-            (_, Self::Module(_, ModuleFault::NotAModule { .. }, _)) => "no core module's header",
-            (_, Self::Module(_, ModuleFault::BadSection { .. }, _)) => "no core section",
-            (_, Self::UnknownSection(..)) => "unknown section",
-            (_, Self::NoName(..)) => "no name",
-            (_, Self::Size(_)) => "section of another size",
-            (_, Self::TooDeep(..)) => "too deep component",
-            (_, Self::Names(..)) => "names that aren't read",
-            (_, Self::Producers(..)) => "producers that aren't read",
+            (_, Kind::List(ListFault::NotAComponent { .. })) => "no component's header",
+            (_, Kind::List(ListFault::BadSection { .. })) => "no section",
+            (_, Kind::Module(ModuleFault::NotAModule { .. })) => "no core module's header",
+            (_, Kind::Module(ModuleFault::BadSection { .. })) => "no core section",
+            (_, Kind::UnknownSection(_)) => "unknown section",
+            (_, Kind::NoName) => "no name",
+            (_, Kind::Size(_)) => "section of another size",
+            (_, Kind::TooDeep) => "too deep component",
+            (_, Kind::Names) => "names that aren't read",
+            (_, Kind::Producers) => "producers that aren't read",
             _ => "items that aren't read",
         }
     }
@@ -120,34 +136,10 @@ impl Fault {
         matches!(self.unread(), Some(Unread::Behind { .. }))
     }
 
-    /// Returns why the part can't be read, and from which byte on.
-    pub fn cause(&self) -> Option<Cause> {
-        match *self {
-            Self::List(
-                ListFault::BadSection { cause, .. }
-                | ListFault::BadItem { cause, .. }
-                | ListFault::TooDeep { cause, .. },
-                _,
-            )
-            | Self::Module(_, ModuleFault::BadItem { cause, .. }, _) => cause.map(Cause::Read),
-            Self::Module(_, ModuleFault::BadSection { cause, .. }, _) => Some(Cause::Read(cause)),
-            _ => self.own_cause(),
-        }
-    }
-
-    /// Returns the cause that isn't in a fault of the reader.
-    fn own_cause(&self) -> Option<Cause> {
-        match *self {
-            Self::List(_, cause) | Self::Module(_, _, cause) | Self::NoName(_, cause) => cause,
-            Self::Names(_, cause) | Self::Producers(_, cause) => Some(cause),
-            _ => None,
-        }
-    }
-
     /// Returns the exit status of the program.
     pub fn status(&self) -> u8 {
-        match self {
-            Self::NoMemory | Self::Unwritten(Unwritten::NoMemory) => NO_MEMORY,
+        match self.kind {
+            Kind::NoMemory | Kind::Unwritten(Unwritten::NoMemory) => NO_MEMORY,
             _ => 1,
         }
     }
@@ -171,34 +163,35 @@ fn moved(unread: Unread, by: usize) -> Unread {
 
 impl Display for Fault {
     fn fmt(&self, f: &mut fmt::Formatter<'_>) -> fmt::Result {
-        match *self {
-            Self::Input(ref error) => error.fmt(f),
-            Self::NoMemory => f.write_str("memory ran out"),
-            Self::List(ListFault::NotAComponent { place: 0, found: Found::Nothing }, _) => {
+        let place = self.place.unwrap_or_default();
+        match self.kind {
+            Kind::Input(ref error) => error.fmt(f),
+            Kind::NoMemory => f.write_str("memory ran out"),
+            Kind::List(ListFault::NotAComponent { place: 0, found: Found::Nothing }) => {
                 f.write_str("no component's header at 0x0: found an empty file")
             }
-            Self::List(fault, _) => fault.fmt(f),
-            Self::Module(place, ModuleFault::NotAModule { found }, _) => {
+            Kind::List(fault @ ListFault::NotAComponent { .. }) => fault.fmt(f),
+            // the others contain their cause
+            Kind::List(fault) => return fault.fmt(f),
+            Kind::Module(ModuleFault::NotAModule { found }) => {
                 write!(f, "no core module's header at {place:#x}: found {found}")
             }
-            Self::Module(_, fault, _) => fault.fmt(f),
-            Self::UnknownSection(place, id) => write!(f, "unknown section {id} at {place:#x}"),
-            Self::NoName(place, _) => write!(f, "custom section without a name at {place:#x}"),
-            Self::Size(WrongSize { place, stated, end }) => {
+            Kind::Module(fault) => return fault.fmt(f),
+            Kind::UnknownSection(id) => write!(f, "unknown section {id} at {place:#x}"),
+            Kind::NoName => write!(f, "custom section without a name at {place:#x}"),
+            Kind::Size(WrongSize { place, stated, end }) => {
                 let by = Counted(stated.abs_diff(end), "byte");
                 let longer = if end > stated { "longer" } else { "shorter" };
                 write!(f, "the section at {place:#x} may be {by} {longer}")
             }
-            Self::TooDeep(place, depth) => {
-                write!(f, "components more than {depth} deep at {place:#x}")
-            }
-            Self::Names(place, _) => write!(f, "bad debug names at {place:#x}"),
-            Self::Producers(place, _) => write!(f, "bad producers at {place:#x}"),
-            Self::OutOfRange(1) => f.write_str("1 index is out of range"),
-            Self::OutOfRange(count) => write!(f, "{count} indices are out of range"),
-            Self::Unwritten(ref unwritten) => unwritten.fmt(f),
+            Kind::TooDeep => write!(f, "components more than {DEPTH} deep at {place:#x}"),
+            Kind::Names => write!(f, "bad debug names at {place:#x}"),
+            Kind::Producers => write!(f, "bad producers at {place:#x}"),
+            Kind::OutOfRange(1) => f.write_str("1 index is out of range"),
+            Kind::OutOfRange(count) => write!(f, "{count} indices are out of range"),
+            Kind::Unwritten(ref unwritten) => unwritten.fmt(f),
         }?;
-        self.own_cause().map_or(Ok(()), |cause| write!(f, ": {cause}"))
+        self.cause.map_or(Ok(()), |cause| write!(f, ": {cause}"))
     }
 }
 

@@ -359,9 +359,9 @@ impl<W: Write> Report for Json<'_, W> {
         match fault {
             None => self.put("null")?,
             Some(fault) => {
-                self.field("{", "place", fault.place())?;
+                self.field("{", "place", fault.place)?;
                 self.field(",", "message", Some(Quoted(fault)))?;
-                self.cause(fault.cause())?;
+                self.cause(fault.cause)?;
                 self.put("}")?;
             }
         }

@@ -1,7 +1,7 @@
 //! Walks through a core module, part by part.
 
 use super::cause::{self, Cause};
-use super::fault::{Failure, Fault};
+use super::fault::{Failure, Fault, Kind};
 use super::phrase;
 use super::report::{Content, Contents, Core, Part, Report};
 use super::walk::{Walk, label};
@@ -90,10 +90,11 @@ impl<R: Report> Walk<'_, '_, R> {
             core: Some(Core { name: section.name, contents, bytes }),
         })?;
         if no_name.is_some() {
-            self.unread(Fault::NoName(range.start, no_name), range.end, true)?;
+            self.unread(Fault::new(Kind::NoName, range.start, no_name), range.end, true)?;
         }
         if section.kind().is_none() {
-            self.unread(Fault::UnknownSection(range.start, section.id), range.end, true)?;
+            let fault = Fault::new(Kind::UnknownSection(section.id), range.start, None);
+            self.unread(fault, range.end, true)?;
         }
         if contents == Contents::Producers {
             self.producers(section.data, range.end - section.data.len())?;

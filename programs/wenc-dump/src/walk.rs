@@ -2,7 +2,7 @@
 
 use super::cause::{self, Cause};
 use super::check::{Check, node_in};
-use super::fault::{Failure, Fault};
+use super::fault::{Failure, Fault, Kind};
 use super::phrase;
 use super::report::{Content, Contents, Label, Part, Report, Rest};
 use super::sizes::{WrongSize, wrong_size};
@@ -103,7 +103,7 @@ impl<'f, R: Report> Walk<'f, '_, R> {
         end: usize,
         are_reported: bool,
     ) -> io::Result<()> {
-        if let Some(place) = fault.place() {
+        if let Some(place) = fault.place {
             let rest = Rest { bytes: self.bytes.get(place..end).unwrap_or(&[]), are_reported };
             self.report.unread(place, fault.words(), rest)?;
         }
@@ -112,10 +112,11 @@ impl<'f, R: Report> Walk<'f, '_, R> {
 
     /// Returns the fault of the header of a component that ends at this byte offset.
     fn of_header(&self, fault: ListFault, end: usize) -> Fault {
-        let ListFault::NotAComponent { place, found } = fault else {
-            return Fault::List(fault, None);
-        };
-        Fault::List(fault, cause::of_header(place, found, &self.bytes[place..end]))
+        let mut converted = Fault::from(fault);
+        if let ListFault::NotAComponent { place, found } = fault {
+            converted.cause = cause::of_header(place, found, &self.bytes[place..end]);
+        }
+        converted
     }
 
     /// Reports the file, a component.
@@ -126,7 +127,7 @@ impl<'f, R: Report> Walk<'f, '_, R> {
         self.sections(sections, self.bytes.len(), names)?;
         self.report.close()?;
         if self.check.found > 0 {
-            self.fault(Fault::OutOfRange(self.check.found))?;
+            self.fault(Kind::OutOfRange(self.check.found).into())?;
         }
         Ok(())
     }
@@ -168,12 +169,12 @@ impl<'f, R: Report> Walk<'f, '_, R> {
             let is_in_wrong_size = self.is_in_wrong_size;
             let wrong_size = wrong_size.filter(|wrong_size| start == Some(wrong_size.place));
             if let Some(wrong_size) = wrong_size {
-                self.fault(Fault::Size(wrong_size))?;
+                self.fault(Fault::new(Kind::Size(wrong_size), wrong_size.place, None))?;
                 self.is_in_wrong_size = true;
             }
             match (section, frame) {
                 (Ok(section), _) => self.section(section)?,
-                (Err(fault), None) => self.unread(Fault::List(fault, None), end, false)?,
+                (Err(fault), None) => self.unread(fault.into(), end, false)?,
                 (Err(fault), Some((range, raw))) => {
                     self.unread_section(range, raw.id, fault)?;
                     sections = here;
@@ -195,8 +196,10 @@ impl<'f, R: Report> Walk<'f, '_, R> {
         fault: ListFault,
     ) -> Result<(), Failure> {
         let fault = match fault {
-            ListFault::BadSection { place, .. } => Fault::UnknownSection(place, id),
-            fault => Fault::List(fault, None),
+            ListFault::BadSection { place, .. } => {
+                Fault::new(Kind::UnknownSection(id), place, None)
+            }
+            fault => fault.into(),
         };
         let (end, word) = (range.end, words::section(id));
         self.report.open(&Part::Section { range, id, word, count: None, core: None })?;
@@ -221,9 +224,9 @@ impl<'f, R: Report> Walk<'f, '_, R> {
                 }
                 Err(ListFault::NoMemory) => return Err(Failure::NoMemory),
                 Err(ListFault::BadSection { place, cause }) => {
-                    Fault::NoName(place, cause.map(Cause::Read))
+                    Fault::new(Kind::NoName, place, cause.map(Cause::Read))
                 }
-                Err(fault) => Fault::List(fault, None),
+                Err(fault) => fault.into(),
             };
             self.note(id, &fault);
             self.unread(fault, section.range().end, false)?;
@@ -244,7 +247,7 @@ impl<'f, R: Report> Walk<'f, '_, R> {
         self.report.open(&Part::Item { range, label, content, bytes: &[] })?;
         match sections {
             _ if self.names.len() == DEPTH => {
-                self.unread(Fault::TooDeep(place, DEPTH), end, true)?;
+                self.unread(Fault::new(Kind::TooDeep, place, None), end, true)?;
             }
             Ok(Some(sections)) => self.sections(sections, end, own)?,
             Ok(None) => {}
