@@ -1,9 +1,10 @@
 //! Walks through custom sections.
 
 use super::cause::Cause;
-use super::fault::{Failure, Fault, Kind};
+use super::fault::{Fault, Kind};
 use super::report::{Contents, Entry, Part, Report};
 use super::walk::Walk;
+use std::io;
 use std::ops::Range;
 use wenc::view::ItemView;
 use wenc::{DebugNames, NamesFault, ProducersFault, ProducersReader};
@@ -26,13 +27,13 @@ impl Contents {
 }
 
 impl<R: Report> Walk<'_, '_, R> {
-    fn entry(&mut self, entry: Entry) -> Result<(), Failure> {
+    fn entry(&mut self, entry: Entry) -> io::Result<()> {
         self.report.open(&Part::Entry(entry))?;
-        Ok(self.report.close()?)
+        self.report.close()
     }
 
     /// Reports the contents of a custom section, whose data ends at this byte offset.
-    pub(super) fn custom(&mut self, item: &ItemView, end: usize) -> Result<(), Failure> {
+    pub(super) fn custom(&mut self, item: &ItemView, end: usize) -> io::Result<()> {
         let ItemView::Custom { name, data } = *item else { return Ok(()) };
         match Contents::of(name) {
             Contents::Names => self.debug_names(item, end - data.len()..end),
@@ -42,7 +43,7 @@ impl<R: Report> Walk<'_, '_, R> {
     }
 
     /// Reports the debug names in an item, whose data has these byte offsets.
-    fn debug_names(&mut self, item: &ItemView, data: Range<usize>) -> Result<(), Failure> {
+    fn debug_names(&mut self, item: &ItemView, data: Range<usize>) -> io::Result<()> {
         let mut names = DebugNames::new();
         let read = names.read(item);
         if let Some(name) = names.component() {
@@ -56,14 +57,14 @@ impl<R: Report> Walk<'_, '_, R> {
             Err(NamesFault::BadSubsection { place, cause }) => {
                 let cause = Some(Cause::Read(cause.moved(data.start)));
                 let fault = Fault::new(Kind::Names, data.start + place, cause);
-                Ok(self.unread(fault, data.end, true)?)
+                self.unread(fault, data.end, true)
             }
-            Err(_) => Err(Failure::NoMemory),
+            Err(_) => Err(io::ErrorKind::OutOfMemory.into()),
         }
     }
 
     /// Reports the tools in the data of a section, which begins at this byte offset.
-    pub(super) fn producers(&mut self, data: &[u8], start: usize) -> Result<(), Failure> {
+    pub(super) fn producers(&mut self, data: &[u8], start: usize) -> io::Result<()> {
         for tool in ProducersReader::new(data) {
             match tool {
                 Ok(tool) => self.entry(Entry::Tool(tool))?,

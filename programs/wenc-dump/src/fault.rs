@@ -5,7 +5,6 @@ use super::sizes::WrongSize;
 use super::walk::DEPTH;
 use super::wit::Unwritten;
 use super::words::Counted;
-use std::collections::TryReserveError;
 use std::fmt::{self, Display};
 use std::io;
 use wenc::{Found, ListFault, ModuleFault, Unread};
@@ -192,25 +191,5 @@ impl Display for Fault {
             Kind::Unwritten(ref unwritten) => unwritten.fmt(f),
         }?;
         self.cause.map_or(Ok(()), |cause| write!(f, ": {cause}"))
-    }
-}
-
-/// Why printing a file ended early.
-pub enum Failure {
-    /// An allocation failed.
-    NoMemory,
-    /// The output couldn't be written.
-    Write(io::Error),
-}
-
-impl From<io::Error> for Failure {
-    fn from(error: io::Error) -> Self {
-        Self::Write(error)
-    }
-}
-
-impl From<TryReserveError> for Failure {
-    fn from(_: TryReserveError) -> Self {
-        Self::NoMemory
     }
 }

@@ -1,11 +1,12 @@
 //! Walks through a core module, part by part.
 
 use super::cause::{self, Cause};
-use super::fault::{Failure, Fault, Kind};
+use super::fault::{Fault, Kind};
 use super::phrase;
 use super::report::{Content, Contents, Core, Part, Report};
 use super::walk::{Walk, label};
 use super::words;
+use std::io;
 use std::ops::Range;
 use wenc::tree::{CoreEntityType, IndexCounts, Space};
 use wenc::{CoreItem, CoreSection, CoreSections, ModuleFault, SectionId};
@@ -29,7 +30,7 @@ fn are_shown(section: &CoreSection) -> bool {
 
 impl<R: Report> Walk<'_, '_, R> {
     /// Reports the sections of a core module, which begins at this byte offset in a component.
-    pub(super) fn module(&mut self, at: usize, bytes: &[u8]) -> Result<(), Failure> {
+    pub(super) fn module(&mut self, at: usize, bytes: &[u8]) -> io::Result<()> {
         match CoreSections::new(bytes) {
             Ok(sections) => self.core_sections(at..at + bytes.len(), sections),
             Err(fault) => {
@@ -37,7 +38,7 @@ impl<R: Report> Walk<'_, '_, R> {
                     ModuleFault::NotAModule { found } => cause::of_header(at, found, bytes),
                     _ => None,
                 };
-                Ok(self.unread(Fault::of_module(at, fault, cause), at + bytes.len(), false)?)
+                self.unread(Fault::of_module(at, fault, cause), at + bytes.len(), false)
             }
         }
     }
@@ -48,7 +49,7 @@ impl<R: Report> Walk<'_, '_, R> {
         &mut self,
         module: Range<usize>,
         mut sections: CoreSections,
-    ) -> Result<(), Failure> {
+    ) -> io::Result<()> {
         let at = module.start;
         let mut counts = IndexCounts::default();
         let mut here = sections.clone();
@@ -77,7 +78,7 @@ impl<R: Report> Walk<'_, '_, R> {
         section: &CoreSection,
         no_name: Option<Cause>,
         counts: &mut IndexCounts,
-    ) -> Result<(), Failure> {
+    ) -> io::Result<()> {
         let are_shown = are_shown(section);
         let contents = section.name.map_or(Contents::Other, Contents::of_core);
         let range = at + section.range.start..at + section.range.end;
@@ -111,7 +112,7 @@ impl<R: Report> Walk<'_, '_, R> {
                 }
             }
         }
-        Ok(self.report.close()?)
+        self.report.close()
     }
 
     /// Reports an item of a section of the core module that begins at this byte offset.
@@ -122,7 +123,7 @@ impl<R: Report> Walk<'_, '_, R> {
         range: Range<usize>,
         item: &CoreItem,
         counts: &mut IndexCounts,
-    ) -> Result<(), Failure> {
+    ) -> io::Result<()> {
         let data_start = section.range.end - section.data.len();
         self.report.open(&Part::Item {
             range: at + range.start..at + range.end,
@@ -131,6 +132,6 @@ impl<R: Report> Walk<'_, '_, R> {
             bytes: &section.data[range.start - data_start..range.end - data_start],
         })?;
         counts.define(space(item).map(|space| (space, 1)));
-        Ok(self.report.close()?)
+        self.report.close()
     }
 }

@@ -2,7 +2,7 @@
 
 use super::arguments::{HELP, Options, Request, USAGE, request};
 use super::escape::Escaped;
-use super::fault::{Failure, Fault, Kind};
+use super::fault::{Fault, Kind};
 use super::json::Json;
 use super::report::Report;
 use super::select::Selected;
@@ -211,8 +211,8 @@ fn report(
     report.begin(file)?;
     let fault = match bytes_of(file, input).map(|bytes| walk(&bytes, has_check, report, on_fault)) {
         Err(error) => Some(Fault::of_input(error)),
-        Ok(Err(Failure::NoMemory)) => Some(Kind::NoMemory.into()),
-        Ok(Err(Failure::Write(error))) => return Err(error),
+        Ok(Err(error)) if error.kind() == io::ErrorKind::OutOfMemory => Some(Kind::NoMemory.into()),
+        Ok(Err(error)) => return Err(error),
         Ok(Ok(())) => None,
     };
     // the report up to a fault precedes its message

@@ -1,8 +1,7 @@
 //! Sections with wrong sizes.
 
-use super::fault::Failure;
-use std::iter;
 use std::ops::Range;
+use std::{io, iter};
 use wenc::view::ItemView;
 use wenc::{Cause, ComponentSectionId, CoreSections, ListFault, SectionReader, Sections};
 
@@ -62,7 +61,7 @@ fn is_cut(bytes: &[u8], place: usize) -> bool {
 }
 
 /// Returns, for each byte offset from this one on, whether the sections from there reach the end.
-fn reaching(bytes: &[u8], from: usize) -> Result<Vec<bool>, Failure> {
+fn reaching(bytes: &[u8], from: usize) -> io::Result<Vec<bool>> {
     let mut reaching = Vec::new();
     reaching.try_reserve_exact(bytes.len() - from + 1)?;
     reaching.resize(bytes.len() - from, false);
@@ -81,7 +80,7 @@ fn reaching(bytes: &[u8], from: usize) -> Result<Vec<bool>, Failure> {
 /// # Errors
 ///
 /// Fails if an allocation fails, of up to a byte for each byte from there on.
-pub fn wrong_size(bytes: &[u8], from: usize) -> Result<Option<WrongSize>, Failure> {
+pub fn wrong_size(bytes: &[u8], from: usize) -> io::Result<Option<WrongSize>> {
     let next = |place: &usize| content(bytes, *place).map(|content| content.end);
     let last = iter::successors(Some(from), next).last().unwrap_or(from);
     if last == bytes.len() {

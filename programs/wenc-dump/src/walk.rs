@@ -2,7 +2,7 @@
 
 use super::cause::{self, Cause};
 use super::check::{Check, node_in};
-use super::fault::{Failure, Fault, Kind};
+use super::fault::{Fault, Kind};
 use super::phrase;
 use super::report::{Content, Contents, Label, Part, Report, Rest};
 use super::sizes::{WrongSize, wrong_size};
@@ -54,24 +54,24 @@ pub fn walk(
     has_check: bool,
     report: &mut impl Report,
     on_fault: &mut dyn FnMut(Fault),
-) -> Result<(), Failure> {
+) -> io::Result<()> {
     let check = Check::new(has_check);
     let mut walk =
         Walk { bytes, report, on_fault, names: Vec::new(), is_in_wrong_size: false, check };
     if let Ok(sections) = CoreSections::new(bytes) {
         walk.report.open(&Part::File(0..bytes.len(), Content::Module))?;
         walk.core_sections(0..bytes.len(), sections)?;
-        return Ok(walk.report.close()?);
+        return walk.report.close();
     }
     match Sections::new(bytes) {
         Ok(sections) => walk.component(sections),
-        Err(fault) => Ok(walk.fault(walk.of_header(fault, bytes.len()))?),
+        Err(fault) => walk.fault(walk.of_header(fault, bytes.len())),
     }
 }
 
 /// Returns the debug names of a component.
-fn names_of(sections: Sections) -> Result<DebugNames, Failure> {
-    sections.try_names().map_err(|_| Failure::NoMemory)
+fn names_of(sections: Sections) -> io::Result<DebugNames> {
+    sections.try_names().map_err(|_| io::ErrorKind::OutOfMemory.into())
 }
 
 impl<'f, R: Report> Walk<'f, '_, R> {
@@ -120,7 +120,7 @@ impl<'f, R: Report> Walk<'f, '_, R> {
     }
 
     /// Reports the file, a component.
-    fn component(&mut self, sections: Sections<'f>) -> Result<(), Failure> {
+    fn component(&mut self, sections: Sections<'f>) -> io::Result<()> {
         let names = names_of(sections)?;
         let range = 0..self.bytes.len();
         self.report.open(&Part::File(range, Content::Component(names.component())))?;
@@ -138,7 +138,7 @@ impl<'f, R: Report> Walk<'f, '_, R> {
         sections: Sections<'f>,
         end: usize,
         names: DebugNames,
-    ) -> Result<(), Failure> {
+    ) -> io::Result<()> {
         self.names.try_reserve(1)?;
         self.names.push(names);
         self.check.counts.try_reserve(1)?;
@@ -161,7 +161,7 @@ impl<'f, R: Report> Walk<'f, '_, R> {
         mut sections: Sections<'f>,
         end: usize,
         wrong_size: Option<WrongSize>,
-    ) -> Result<(), Failure> {
+    ) -> io::Result<()> {
         let mut here = sections;
         while let Some(section) = sections.next() {
             let frame = here.next_raw();
@@ -189,12 +189,7 @@ impl<'f, R: Report> Walk<'f, '_, R> {
     }
 
     /// Reports a section whose items can't be read.
-    fn unread_section(
-        &mut self,
-        range: Range<usize>,
-        id: u8,
-        fault: ListFault,
-    ) -> Result<(), Failure> {
+    fn unread_section(&mut self, range: Range<usize>, id: u8, fault: ListFault) -> io::Result<()> {
         let fault = match fault {
             ListFault::BadSection { place, .. } => {
                 Fault::new(Kind::UnknownSection(id), place, None)
@@ -205,10 +200,10 @@ impl<'f, R: Report> Walk<'f, '_, R> {
         self.report.open(&Part::Section { range, id, word, count: None, core: None })?;
         self.note(id, &fault);
         self.unread(fault, end, false)?;
-        Ok(self.report.close()?)
+        self.report.close()
     }
 
-    fn section(&mut self, section: SectionReader<'f>) -> Result<(), Failure> {
+    fn section(&mut self, section: SectionReader<'f>) -> io::Result<()> {
         let (range, id, count) = (section.range(), section.id(), Some(section.count()));
         let word = words::section(id);
         self.report.open(&Part::Section { range, id, word, count, core: None })?;
@@ -222,7 +217,7 @@ impl<'f, R: Report> Walk<'f, '_, R> {
                     self.item(range, &item)?;
                     continue;
                 }
-                Err(ListFault::NoMemory) => return Err(Failure::NoMemory),
+                Err(ListFault::NoMemory) => return Err(io::ErrorKind::OutOfMemory.into()),
                 Err(ListFault::BadSection { place, cause }) => {
                     Fault::new(Kind::NoName, place, cause.map(Cause::Read))
                 }
@@ -231,11 +226,11 @@ impl<'f, R: Report> Walk<'f, '_, R> {
             self.note(id, &fault);
             self.unread(fault, section.range().end, false)?;
         }
-        Ok(self.report.close()?)
+        self.report.close()
     }
 
     /// Reports a nested component.
-    fn nested(&mut self, range: Range<usize>, section: SectionReader<'f>) -> Result<(), Failure> {
+    fn nested(&mut self, range: Range<usize>, section: SectionReader<'f>) -> io::Result<()> {
         let place = range.start;
         let sections = section.component();
         let own = match sections {
@@ -254,7 +249,7 @@ impl<'f, R: Report> Walk<'f, '_, R> {
             Err(fault) => self.unread(self.of_header(fault, end), end, false)?,
         }
         self.check.add(&ItemView::Component(&[]));
-        Ok(self.report.close()?)
+        self.report.close()
     }
 
     /// Reports the indices of an item at this byte offset that are out of range, if wanted.
@@ -273,7 +268,7 @@ impl<'f, R: Report> Walk<'f, '_, R> {
     }
 
     /// Reports an item that isn't a component.
-    fn item(&mut self, range: Range<usize>, item: &ItemView) -> Result<(), Failure> {
+    fn item(&mut self, range: Range<usize>, item: &ItemView) -> io::Result<()> {
         let names = self.names.last();
         let counts = self.check.counts.last();
         let label = item.defined_indices().map(|(space, count)| label(counts, space, count, names));
@@ -296,6 +291,6 @@ impl<'f, R: Report> Walk<'f, '_, R> {
             ItemView::Custom { .. } => self.custom(item, range.end)?,
             _ => {}
         }
-        Ok(self.report.close()?)
+        self.report.close()
     }
 }
