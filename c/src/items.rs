@@ -5,7 +5,9 @@ use crate::numbers::{maybe_type_ref, maybe_value, option, type_ref};
 use crate::session::{Session, counted};
 use crate::{CallError, Handle, Result, calls, numbers, other};
 use core::ffi::CStr;
-use wenc::{Alias, ComponentSectionId, ComponentStartSection, ModuleArg, RawSection};
+use wenc::{
+    Alias, ComponentExternName, ComponentSectionId, ComponentStartSection, ModuleArg, RawSection,
+};
 
 /// Makes the call of a builder or of a section for a number of `enum wenc_function`.
 macro_rules! builtin {
@@ -103,12 +105,15 @@ calls! {
     wenc_export(
         name[name_len]: text, kind: u32 => numbers::kind, item: u32,
         ty[reference, of] => maybe_type_ref
-    ) -> index = |session| session.export(name.into(), kind, item, ty);
+    ) -> index = |session| {
+        let name = ComponentExternName::from(name);
+        builder_or!(session, Exports, |to| to.try_export(name, kind, item, ty))
+    };
     wenc_export_named(
         &name: Name, kind: u32 => numbers::kind, item: u32, reference: u32, of: u32
     ) -> index = |session| {
-        let name = name.read()?;
-        session.export(name, kind, item, known(c"ref", maybe_type_ref(reference, of))?)
+        let (name, ty) = (name.read()?, known(c"ref", maybe_type_ref(reference, of))?);
+        builder_or!(session, Exports, |to| to.try_export(name, kind, item, ty))
     };
     wenc_alias_export(instance: u32, kind: u32, name[name_len]: text) -> index = |session| {
         let kind = known(c"kind", numbers::kind(kind))?;

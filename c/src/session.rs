@@ -8,11 +8,10 @@ use wenc::tree::Space;
 use wenc::view::ItemView;
 use wenc::{
     Alias, CanonicalFunctionSection, Component, ComponentAliasSection, ComponentBuilder,
-    ComponentCoreTypeEncoder, ComponentExportKind, ComponentExportSection, ComponentExternName,
-    ComponentImportSection, ComponentInstanceSection, ComponentNameSection,
-    ComponentOuterAliasKind, ComponentSection, ComponentType, ComponentTypeEncoder,
-    ComponentTypeRef, ComponentTypeSection, CoreTypeEncoder, CoreTypeSection, Error,
-    InstanceSection, InstanceType, ModuleType,
+    ComponentCoreTypeEncoder, ComponentExportSection, ComponentExternName, ComponentImportSection,
+    ComponentInstanceSection, ComponentNameSection, ComponentOuterAliasKind, ComponentSection,
+    ComponentType, ComponentTypeEncoder, ComponentTypeRef, ComponentTypeSection, CoreTypeEncoder,
+    CoreTypeSection, Error, InstanceSection, InstanceType, ModuleType,
 };
 
 /// What a handle owns.
@@ -106,20 +105,6 @@ impl Session {
                 declared!(to, Some(Space::from(ty.kind())), to.try_import(name, ty))
             }
             Self::Imports(section) => counted!(section => section.try_import(name, ty)),
-            _ => Err(self.wrong_handle()),
-        }
-    }
-
-    pub(crate) fn export(
-        &mut self,
-        name: ComponentExternName<'_>,
-        kind: ComponentExportKind,
-        item: u32,
-        ty: Option<ComponentTypeRef>,
-    ) -> Result<u32> {
-        match self {
-            Self::Building(builder) => Ok(builder.try_export(name, kind, item, ty)?),
-            Self::Exports(section) => counted!(section => section.try_export(name, kind, item, ty)),
             _ => Err(self.wrong_handle()),
         }
     }
