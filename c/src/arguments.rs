@@ -131,40 +131,49 @@ pub(crate) unsafe fn counted<'a, T>(
     at: *const T,
     len: usize,
 ) -> Result<&'a [T]> {
-    if u32::try_from(len).is_err() && is_possible(at, len) {
-        let status = if size_of::<T>() == 1 { Status::TooLarge } else { Status::TooMany };
-        return Err(CallError::from(status).of(argument));
-    }
-    unsafe { list(at, len) }.map_err(|error| error.of(argument))
+    unsafe { counted_list(at, len) }.map_err(|status| CallError::from(status).of(argument))
 }
 
-/// Returns a UTF-8 string. Most are ASCII, which is faster to check.
+unsafe fn counted_list<'a, T>(at: *const T, len: usize) -> Result<&'a [T], Status> {
+    if u32::try_from(len).is_err() && is_possible(at, len) {
+        return Err(if size_of::<T>() == 1 { Status::TooLarge } else { Status::TooMany });
+    }
+    unsafe { list(at, len) }
+}
+
+/// Returns a UTF-8 string.
 pub(crate) unsafe fn text<'a>(
     argument: &'static CStr,
     at: *const u8,
     len: usize,
 ) -> Result<&'a str> {
-    let bytes = unsafe { counted(argument, at, len) }?;
+    unsafe { utf8(at, len) }.map_err(|status| CallError::from(status).of(argument))
+}
+
+/// Returns a UTF-8 string. Most are ASCII, which is faster to check.
+unsafe fn utf8<'a>(at: *const u8, len: usize) -> Result<&'a str, Status> {
+    let bytes = unsafe { counted_list(at, len) }?;
     if bytes.is_ascii() {
         return Ok(unsafe { str::from_utf8_unchecked(bytes) });
     }
-    str::from_utf8(bytes).map_err(|_| CallError::from(Status::Malformed).of(argument))
+    str::from_utf8(bytes).map_err(|_| Status::Malformed)
 }
 
 /// Returns a debug name, or none.
 pub(crate) unsafe fn debug_name<'a>(name: *const Text) -> Result<Option<&'a str>> {
     let name = unsafe { name.as_ref() };
-    name.map_or(Ok(None), |name| unsafe { name.optional(c"debug_name") })
+    let name = name.map_or(Ok(None), |name| unsafe { name.optional() });
+    name.map_err(|status| CallError::from(status).of(c"debug_name"))
 }
 
 impl Text {
     pub const NONE: Self = Self { at: ptr::null(), len: 0 };
 
     /// Returns the string, unless there is none.
-    unsafe fn optional<'a>(&self, argument: &'static CStr) -> Result<Option<&'a str>> {
+    unsafe fn optional<'a>(&self) -> Result<Option<&'a str>, Status> {
         match (self.at.is_null(), self.len) {
             (true, 0) => Ok(None),
-            (_, len) => unsafe { text(argument, self.at, len) }.map(Some),
+            (_, len) => unsafe { utf8(self.at, len) }.map(Some),
         }
     }
 }
@@ -172,11 +181,12 @@ impl Text {
 impl Name {
     /// Returns the name with its options.
     pub(crate) unsafe fn read<'a>(&self) -> Result<ComponentExternName<'a>> {
+        let wrong = |status: Status| CallError::from(status).of(c"name");
         let option = |option: Text| -> Result<Option<Cow<'a, str>>> {
-            Ok(unsafe { option.optional(c"name") }?.map(Into::into))
+            Ok(unsafe { option.optional() }.map_err(wrong)?.map(Into::into))
         };
         Ok(ComponentExternName {
-            name: unsafe { text(c"name", self.name.at, self.name.len) }?.into(),
+            name: unsafe { utf8(self.name.at, self.name.len) }.map_err(wrong)?.into(),
             implements: option(self.implements)?,
             version_suffix: option(self.version_suffix)?,
             external_id: option(self.external_id)?,
@@ -207,9 +217,9 @@ pub(crate) unsafe fn named<'a, T>(
     of: impl Fn(u32, u32) -> Option<T> + 'a,
 ) -> Result<impl ExactSizeIterator<Item = (&'a str, T)>> {
     for (member, part) in parts.iter().enumerate() {
-        let name = unsafe { text(argument, part.name, part.name_len) };
-        name.map_err(|error| error.at(member))?;
-        of(part.kind, part.number).ok_or(CallError::bad(argument).at(member))?;
+        let wrong = |status: Status| CallError::from(status).of(argument).at(member);
+        unsafe { utf8(part.name, part.name_len) }.map_err(wrong)?;
+        of(part.kind, part.number).ok_or(Status::BadArgument).map_err(wrong)?;
     }
     Ok(parts.iter().map(move |part| {
         let at = if part.name_len == 0 { NonNull::dangling().as_ptr() } else { part.name };

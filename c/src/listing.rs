@@ -69,7 +69,7 @@ impl Listed {
 
     /// Returns the number of items in an index space.
     pub(crate) fn count(&self, space: Space) -> Result<u32> {
-        let count = u32::try_from(self.counts[space.number()]);
+        let count = u32::try_from(self.counts.of(space));
         count.map_err(|_| CallError::from(Status::TooLarge).of(c"space"))
     }
 

@@ -184,7 +184,7 @@ pub unsafe extern "C" fn wenc_walk_nodes(
         let (Some(walk), Some(item), Some(visit)) = (walk, item, visit) else {
             return Err(Status::BadArgument);
         };
-        let component = unsafe { walk.bytes() }.map_err(|error| error.status)?;
+        let component = unsafe { walk.bytes() }?;
         let section = numbers::section(item.section).ok_or(Status::BadArgument)?;
         let range = item.place..item.place.saturating_add(item.len);
         let encoded = component.get(range).ok_or(Status::BadArgument)?;

@@ -14,7 +14,7 @@ calls! {
     };
     wenc_raw_custom_section(bytes: *const u8, len: usize) = |session| {
         // They begin with their size, and may be longer than a size of 32 bits.
-        let bytes = list(bytes, len).map_err(|error| error.of(c"bytes"))?;
+        let bytes = list(bytes, len).map_err(|status| CallError::from(status).of(c"bytes"))?;
         match session {
             Session::Building(builder) => Ok(builder.try_raw_custom_section(bytes)?),
             _ => session.append(&RawCustomSection(bytes)).map(drop),

@@ -197,7 +197,7 @@ impl Session {
     }
 
     #[cold]
-    fn discarded(&mut self, error: Error) -> Refused {
+    fn discarded(&mut self, error: Error) -> CallError {
         match self {
             Self::Building(to) => to.discard_unfinished(),
             Self::ComponentType(to) => to.discard_unfinished(),

@@ -9,11 +9,11 @@ pub mod call;
 #[path = "../common/counts.rs"]
 pub mod counts;
 pub mod format;
+#[path = "../../programs/wenc-dump/tests/dump/json_value.rs"]
+pub mod json_value;
 #[path = "../common/refuse.rs"]
 pub mod refuse;
 pub mod size;
 pub mod table;
-#[path = "../../programs/wenc-dump/tests/dump/values.rs"]
-pub mod values;
 #[path = "../common/visited.rs"]
 pub mod visited;

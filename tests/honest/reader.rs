@@ -8,7 +8,7 @@ use super::lexer::{Token, lex};
 use std::collections::BTreeMap;
 
 /// The ways, each of which some source takes.
-pub const WAYS: [&str; 29] = [
+pub const WAYS: [&str; 30] = [
     "kept",
     "prelude",
     "attribute of the prover left out",

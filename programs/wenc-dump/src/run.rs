@@ -183,16 +183,14 @@ fn wit(
     let mut is_component = true;
     let definitions = Definitions::past_faults(&bytes, DEPTH, |fault| {
         is_component &= !matches!(fault, ListFault::NotAComponent { place: 0, .. });
-        tell(&match fault {
-            ListFault::NoMemory => Fault::NoMemory,
-            fault => Fault::List(fault, None),
-        });
+        on_fault(&fault.into());
     });
     let (text, unwritten) = Wit::of(&definitions);
     if is_component {
         print(out, &text)?;
     }
-    unwritten.into_iter().map(Fault::Unwritten).for_each(|of| tell(&of));
+    let unwritten = unwritten.into_iter().map(|part| Kind::Unwritten(part).into());
+    unwritten.for_each(|fault| on_fault(&fault));
     Ok(())
 }
 

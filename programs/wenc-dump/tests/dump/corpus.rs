@@ -20,7 +20,7 @@ fn digest(bytes: &[u8]) -> u64 {
 }
 
 /// The paths of the components, in order.
-fn paths() -> Vec<PathBuf> {
+pub fn paths() -> Vec<PathBuf> {
     let files = fs::read_dir(corpus("wasm")).expect("the corpus is there");
     let mut paths: Vec<_> = files.map(|file| file.expect("it is there").path()).collect();
     paths.sort_by_key(|path| path.with_extension(""));

@@ -10,7 +10,6 @@ mod custom;
 mod faults;
 mod fuzz;
 mod json;
-mod json_value;
 // The limits are those of optimized code.
 #[cfg(all(target_os = "linux", not(debug_assertions)))]
 mod limits;
@@ -30,7 +29,7 @@ use std::fs;
 use std::io::Write;
 use std::path::{Path, PathBuf};
 use std::process::{Command, Output};
-use wenc_calls::values;
+use wenc_calls::json_value;
 use wenc_dump::{Streams, Terminal};
 
 const PROGRAM: &str = env!("CARGO_BIN_EXE_dump-program");

@@ -3,7 +3,7 @@
 
 mod reader;
 
-use crate::corpus::{corpus, names};
+use crate::corpus::{corpus, paths};
 use crate::{FUNCTION, component, run};
 use reader::World;
 use std::collections::{BTreeMap, BTreeSet};
@@ -66,8 +66,9 @@ fn linked(wit: &str, component: &[u8]) -> World {
 fn worlds_are_those_of_the_corpus() {
     let refused = fs::read_to_string(corpus("refused.txt")).expect("it is read");
     let (mut whole, mut items) = (0, 0);
-    for name in names() {
-        let bytes = fs::read(corpus(&format!("wasm/{name}.wasm"))).expect("it is read");
+    for path in paths() {
+        let name = path.file_stem().expect("it has a name").to_string_lossy();
+        let bytes = fs::read(&path).expect("it is read");
         let wit = fs::read_to_string(corpus(&format!("wit/{name}.wit"))).expect("it is read");
         let (status, out, err) = run(&["--wit"], &bytes, Terminal::default());
         let printed = reader::read(&out);
