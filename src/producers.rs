@@ -91,7 +91,7 @@ impl<'a> Iterator for ProducersReader<'a> {
 
     fn size_hint(&self) -> (usize, Option<usize>) {
         let rest = self.parts.as_ref().map(|parts| parts.as_ref().map_or(0, |of| of.rest.len()));
-        // after the last one there may be one that isn't
+        // 32 bits: half of a length.
         (0, Some(rest.map_or(0, |rest| rest / 2 + 1)))
     }
 }
