@@ -1,7 +1,7 @@
 //! The debug names of the corpus: read out of their section, given to the builder once more, and
 //! written by it.
 
-use crate::again;
+use crate::rebuilt;
 use wenc::tree::{ItemTree, Space};
 use wenc::{ComponentBuilder, DebugNames, Listing, Sections, list};
 
@@ -59,7 +59,7 @@ const RENAMED: [(&str, &str, &str); 2] = [
 #[test]
 fn debug_names_are_written_again() {
     let (mut equal, mut but_twice, mut renamed) = (0, 0, 0);
-    for (name, bytes) in again::all() {
+    for (name, bytes) in rebuilt::all() {
         let Ok(listing) = list(&bytes) else { continue };
         let Some(data) = listing.items().find_map(section) else { continue };
         let mut names = listing.names();

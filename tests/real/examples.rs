@@ -17,7 +17,7 @@ mod strip;
 mod world;
 
 use crate::toolchain::linker;
-use crate::{again, corpus};
+use crate::{corpus, rebuilt};
 use componentize::{Signature, componentize};
 use wenc::tree::{ItemTree, NameTree};
 use wenc::{ComponentTypeRef, Listing, Sections, list};
@@ -29,7 +29,7 @@ fn componentized(module: &[u8], signatures: &[&str]) -> Vec<u8> {
 
 /// The items of a component but for custom sections.
 fn items(component: &[u8]) -> Vec<ItemTree> {
-    let items = again::items(list(component).expect("it is listed"));
+    let items = rebuilt::items(list(component).expect("it is listed"));
     items.filter(|item| !matches!(item, ItemTree::Custom { .. })).collect()
 }
 
@@ -218,7 +218,8 @@ fn components_with_a_renamed_import_have_all_else() {
     let mut renamed = 0;
     for (name, bytes) in corpus::components() {
         let Ok(listing) = list(&bytes) else { continue };
-        let Some((old, new)) = again::items(listing).filter_map(|item| names(&item)).last() else {
+        let Some((old, new)) = rebuilt::items(listing).filter_map(|item| names(&item)).last()
+        else {
             continue;
         };
         let other = rename::rename(&bytes, &old, &new).expect("it is renamed");

@@ -3,9 +3,9 @@
 //! others, whose indices are moved, a component is still valid; with these removed again, it has
 //! its bytes.
 
-use crate::again::{built, items};
 use crate::corpus;
 use crate::definitions::is_missing;
+use crate::rebuilt::{built, items};
 use crate::side_by_side::side_by_side;
 use crate::toolchain::{Linker, linker};
 use wenc::tree::{Command, IndexUse, ItemTree, Scope, Space, UsedIndex};

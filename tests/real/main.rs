@@ -7,7 +7,6 @@
 //! tests of worlds, features, random components, examples and documentation call it; where it has
 //! none they say that they were left out.
 
-mod again;
 mod corpus;
 mod debug_names;
 mod definitions;
@@ -20,6 +19,7 @@ mod indices;
 mod interfaces;
 mod iterators;
 mod random;
+mod rebuilt;
 mod shown;
 #[path = "../common/side_by_side.rs"]
 mod side_by_side;

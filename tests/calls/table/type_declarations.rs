@@ -150,7 +150,7 @@ fn row(call: Call, way: usize) -> Call {
 
 /// The rows whose items are declared here, each with one of its calls.
 fn declared() -> Vec<(Call, usize)> {
-    let values = super::values::calls().into_iter();
+    let values = super::type_definitions::calls().into_iter();
     let values = values.filter(|call| ["record", "own", "function"].contains(&&*call.name));
     let items = super::items::calls().into_iter().filter(|call| !call.declares.is_empty());
     let core = super::core_types::calls().into_iter();
