@@ -1,5 +1,5 @@
-//! The eraser: what it refuses, and in which line; what becomes of comments; the conditions of items
-//! that exist only with a feature; and the layout of the package.
+//! The eraser: what it rejects, with the line; what becomes of comments; conditions of items that
+//! exist only with a feature; and the layout of the package.
 
 #[allow(dead_code, reason = "the crate's tables are for the build script")]
 #[path = "../build/erase.rs"]

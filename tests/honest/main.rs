@@ -1,6 +1,7 @@
 //! Whether the crate is made of the proved sources: `proof` compares their digests with PROOF, and
-//! this compares each source with the Rust that it became. Where they differ, it has to be in one of the ways that `reader` lists; whatever else is
-//! left out, changed, added or moved to another line is found.
+//! this compares each source with the Rust that it became. Where they differ, it has to be in one
+//! of the ways that `reader` lists; whatever else is left out, changed, added or moved to another
+//! line is found.
 //!
 //! A source is taken without its clauses and ghost items: `gate/erased` compares that with what the
 //! prover reads as code.
