@@ -1,7 +1,7 @@
 //! The allocator and allocation errors.
 
+use alloc::collections::TryReserveError;
 use core::fmt;
-use core::marker::PhantomData;
 
 /// Rattle's bound of allocators, for the sources' imports: the eraser leaves out what is bound.
 pub trait Allocator {}
@@ -10,13 +10,27 @@ pub trait Allocator {}
 #[derive(Clone, Copy, Debug, Default, PartialEq, Eq, Hash)]
 pub struct Global;
 
-/// Returns an error if a test makes the next allocation fail.
+/// Returns an error if a test plans that the next allocation is refused.
 #[inline]
-pub(crate) fn is_refused() -> bool {
+pub(crate) fn ask() -> Result<(), AllocError> {
     #[cfg(all(test, has_tests))]
-    return !crate::proved::tests::refusing::allows();
-    #[cfg(not(all(test, has_tests)))]
-    false
+    if !crate::proved::tests::refusing::allows() {
+        return Err(AllocError);
+    }
+    Ok(())
+}
+
+/// Creates a vector or a string with room for exactly this, which `reserve` reserves.
+pub(super) fn with_room<V: Default>(
+    room: usize,
+    reserve: impl FnOnce(&mut V, usize) -> Result<(), TryReserveError>,
+) -> Result<V, AllocError> {
+    let mut made = V::default();
+    if room > 0 {
+        ask()?;
+        reserve(&mut made, room)?;
+    }
+    Ok(made)
 }
 
 /// An allocation failed.
@@ -31,14 +45,23 @@ impl fmt::Display for AllocError {
 
 impl core::error::Error for AllocError {}
 
-/// An allocation failed, and a value of this type couldn't be stored. It is dropped: no source
-/// takes it back.
+/// An allocation failed, and this value couldn't be stored.
 #[derive(Debug)]
-pub struct AllocFailed<T>(pub PhantomData<T>);
+pub struct AllocFailed<T> {
+    /// The value.
+    pub value: T,
+}
 
 impl<T> From<AllocFailed<T>> for AllocError {
     #[inline]
     fn from(_failed: AllocFailed<T>) -> AllocError {
+        AllocError
+    }
+}
+
+impl From<TryReserveError> for AllocError {
+    #[inline]
+    fn from(_error: TryReserveError) -> AllocError {
         AllocError
     }
 }

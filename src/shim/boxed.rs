@@ -1,10 +1,9 @@
 //! Values on the heap.
 
-use super::alloc::{AllocFailed, Global, is_refused};
+use super::alloc::{AllocFailed, Global, ask};
 use alloc::boxed::Box as Inner;
 use alloc::vec::Vec;
 use core::fmt;
-use core::marker::PhantomData;
 use core::ops::{Deref, DerefMut};
 
 /// std's `Box`, whose [`try_new`](Self::try_new) returns an error if the allocation fails.
@@ -20,8 +19,8 @@ impl<T> Box<T> {
     /// could fail.
     pub(crate) fn new(_alloc: Global, value: T) -> Result<Self, AllocFailed<T>> {
         let mut one = Vec::new();
-        if is_refused() || one.try_reserve_exact(1).is_err() {
-            return Err(AllocFailed(PhantomData));
+        if ask().is_err() || one.try_reserve_exact(1).is_err() {
+            return Err(AllocFailed { value });
         }
         one.push(value);
         match one.into_boxed_slice().try_into() {

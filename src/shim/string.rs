@@ -1,6 +1,6 @@
 //! Strings: std's, with Rattle's calls, which return an error if an allocation fails.
 
-use super::alloc::{AllocError, Global, TryClone, is_refused};
+use super::alloc::{AllocError, Global, TryClone, ask};
 use super::vec::FIRST_BYTES;
 pub use alloc::string::String;
 use core::fmt;
@@ -32,11 +32,9 @@ fn reserve(text: &mut String, more: usize) -> Result<(), AllocError> {
 #[cold]
 #[inline(never)]
 fn grow(text: &mut String, more: usize) -> Result<(), AllocError> {
+    ask()?;
     let least = if text.capacity() == 0 { FIRST_BYTES } else { 0 };
-    if is_refused() || text.try_reserve(more.max(least)).is_err() {
-        return Err(AllocError);
-    }
-    Ok(())
+    Ok(text.try_reserve(more.max(least))?)
 }
 
 impl StringUsing for String {
@@ -49,9 +47,8 @@ impl StringUsing for String {
     fn from_str(_alloc: Global, text: &str) -> Result<Self, AllocError> {
         let mut made = String::new();
         if !text.is_empty() {
-            if is_refused() || made.try_reserve_exact(text.len()).is_err() {
-                return Err(AllocError);
-            }
+            ask()?;
+            made.try_reserve_exact(text.len())?;
             made.push_str(text);
         }
         Ok(made)

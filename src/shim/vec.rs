@@ -1,8 +1,7 @@
 //! Vectors: std's, with Rattle's calls, which return an error if an allocation fails.
 
-use super::alloc::{AllocError, AllocFailed, Global, is_refused};
+use super::alloc::{AllocError, AllocFailed, Global, ask, with_room};
 pub use alloc::vec::Vec;
-use core::marker::PhantomData;
 
 /// The least capacity of a vector of bytes, or a string, that grows from none. std's begin with 8:
 /// a type of a few members, or a section of a few items, would be reallocated three times.
@@ -27,10 +26,10 @@ pub trait VecUsing<T>: Sized {
     /// Reserves room for at least this many more elements.
     fn try_reserve_using(&mut self, more: usize) -> Result<(), AllocError>;
 
-    /// Appends an element.
+    /// Appends an element, or returns it.
     fn push_using(&mut self, value: T) -> Result<(), AllocFailed<T>>;
 
-    /// Inserts an element at an index.
+    /// Inserts an element at an index, or returns it.
     fn insert_using(&mut self, at: usize, value: T) -> Result<(), AllocFailed<T>>;
 
     /// Appends the elements of a slice.
@@ -48,10 +47,8 @@ fn grow<T>(vec: &mut Vec<T>, more: usize) -> Result<(), AllocError> {
     if const { size_of::<T>() == 1 } && vec.capacity() < FIRST_BYTES {
         room = room.max(FIRST_BYTES - vec.len());
     }
-    if is_refused() || vec.try_reserve(room).is_err() {
-        return Err(AllocError);
-    }
-    Ok(())
+    let is_refused = ask().is_err() || vec.try_reserve(room).is_err();
+    if is_refused { Err(AllocError) } else { Ok(()) }
 }
 
 /// Appends an element for which there is no room. Apart from `push_using`, so that std's is
@@ -60,7 +57,7 @@ fn grow<T>(vec: &mut Vec<T>, more: usize) -> Result<(), AllocError> {
 #[inline(never)]
 fn push_growing<T>(vec: &mut Vec<T>, value: T) -> Result<(), AllocFailed<T>> {
     if grow(vec, 1).is_err() {
-        return Err(AllocFailed(PhantomData));
+        return Err(AllocFailed { value });
     }
     vec.push(value);
     Ok(())
@@ -83,11 +80,7 @@ impl<T> VecUsing<T> for Vec<T> {
 
     #[inline]
     fn with_capacity_using(_alloc: Global, capacity: usize) -> Result<Self, AllocError> {
-        let mut made = Vec::new();
-        if capacity > 0 && (is_refused() || made.try_reserve_exact(capacity).is_err()) {
-            return Err(AllocError);
-        }
-        Ok(made)
+        with_room(capacity, Vec::try_reserve_exact)
     }
 
     #[inline]
@@ -118,7 +111,7 @@ impl<T> VecUsing<T> for Vec<T> {
                 return push_growing(self, value);
             }
             if grow(self, 1).is_err() {
-                return Err(AllocFailed(PhantomData));
+                return Err(AllocFailed { value });
             }
         }
         self.push(value);
@@ -128,7 +121,7 @@ impl<T> VecUsing<T> for Vec<T> {
     #[inline(never)]
     fn insert_using(&mut self, at: usize, value: T) -> Result<(), AllocFailed<T>> {
         if self.try_reserve_using(1).is_err() {
-            return Err(AllocFailed(PhantomData));
+            return Err(AllocFailed { value });
         }
         self.insert(at, value);
         Ok(())
