@@ -383,10 +383,15 @@ fn past_a_fault() {
 }
 
 /// Two canonical functions that can't be read, at 18, and a function of a type at 11 that is lifted
-/// from this core function, at 23, and exported as `f`, at 31.
+/// from this core function and exported as `f`.
 fn lifting(core: u8) -> Vec<u8> {
+    lifting_after(b"\x08\x03\x02\xff\xff", core)
+}
+
+/// These sections between that type and that function.
+fn lifting_after(unread: &[u8], core: u8) -> Vec<u8> {
     let lift = section(8, &[1, 0, 0, core, 0, 0]);
-    let unread = section(8, b"\x02\xff\xff");
+    let unread = unread.to_vec();
     let export = section(11, b"\x01\0\x01f\x01\0\0");
     component(&[many(7, &[b"\x40\0\x01\0"]), unread, lift, export].concat())
 }
@@ -417,6 +422,14 @@ fn indices_after_a_fault() {
         assert_eq!((export.index(), scope.count(space)), (None, u64::MAX));
         assert_eq!((scope.count(Space::CoreFuncs), scope.count(Space::Types)), (u64::MAX, 1));
         assert_eq!(resolved(scope, Space::Types, 0), Ok(11));
+    }
+    // nor are they after aliases or imports that can't be read, if functions are core functions
+    for between in [b"\x06\x02\x01\xff", b"\x0a\x02\x01\xff"] {
+        let all = lifting_after(&[b"\x08\x02\x01\xff", &between[..]].concat(), 0);
+        let (definitions, faults) = past_faults(&all);
+        let export = definitions.component().export("f").expect("it is read");
+        let fault = ScopeFault::Unread { place: 34, space, unread: 18 };
+        assert_eq!((faults, export.target(), export.index()), (2, Err(fault), None));
     }
     // neither is an export of an instance whose component has exports that can't be read, at 21
     let aliased = |inner: Vec<u8>| {
