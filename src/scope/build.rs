@@ -182,62 +182,33 @@ impl<'a> Reader<'a> {
         Ok(())
     }
 
-    /// Adds a definition, or begins its scope if it is a type that has one.
+    /// Adds a definition, with its exports or arguments if it is an instance, or begins its scope
+    /// if it is a type that has one.
     fn meaning(&mut self, place: usize, meaning: Meaning<'a>) -> Result<(), ListFault> {
         if let Some(declarations) = meaning.declarations() {
             push(&mut self.types, declarations)?;
             return self.enter(place, meaning);
         }
         match meaning {
-            Meaning::Item(ItemView::Instance(instance)) => self.instance(place, meaning, instance),
-            Meaning::Item(ItemView::CoreInstance(instance)) => {
-                self.core_instance(place, meaning, instance)
-            }
-            _ => self.define(place, meaning, NONE),
-        }
-    }
-
-    /// Adds an instance, with its exports or arguments.
-    fn instance(
-        &mut self,
-        place: usize,
-        meaning: Meaning<'a>,
-        instance: InstanceView<'a>,
-    ) -> Result<(), ListFault> {
-        match instance {
-            InstanceView::Instantiate { args, .. } => {
+            Meaning::Item(ItemView::Instance(InstanceView::Instantiate { args, .. })) => {
                 let args = args.map(|(name, kind, index)| Meaning::Argument { name, kind, index });
                 self.list(place, meaning, args)
             }
-            InstanceView::Exports(exports) => {
-                let exports = exports.map(|(name, kind, index)| ItemView::Export {
-                    name,
-                    kind,
-                    index,
-                    ty: None,
-                });
-                self.list(place, meaning, exports.map(Meaning::Item))
+            Meaning::Item(ItemView::Instance(InstanceView::Exports(exports))) => {
+                let export = |(name, kind, index)| ItemView::Export { name, kind, index, ty: None };
+                self.list(place, meaning, exports.map(export).map(Meaning::Item))
             }
-        }
-    }
-
-    /// Adds a core instance, with its exports or arguments.
-    fn core_instance(
-        &mut self,
-        place: usize,
-        meaning: Meaning<'a>,
-        instance: CoreInstanceView<'a>,
-    ) -> Result<(), ListFault> {
-        match instance {
-            CoreInstanceView::Instantiate { args, .. } => {
+            Meaning::Item(ItemView::CoreInstance(CoreInstanceView::Instantiate {
+                args, ..
+            })) => {
                 let args = args.map(|(name, argument)| Meaning::CoreArgument { name, argument });
                 self.list(place, meaning, args)
             }
-            CoreInstanceView::Exports(exports) => {
-                let exports =
-                    exports.map(|(name, kind, index)| Meaning::CoreExport { name, kind, index });
-                self.list(place, meaning, exports)
+            Meaning::Item(ItemView::CoreInstance(CoreInstanceView::Exports(exports))) => {
+                let export = |(name, kind, index)| Meaning::CoreExport { name, kind, index };
+                self.list(place, meaning, exports.map(export))
             }
+            _ => self.define(place, meaning, NONE),
         }
     }
 

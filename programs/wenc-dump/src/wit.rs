@@ -154,12 +154,10 @@ impl<'s, 'a> Wit<'s, 'a> {
         self.line("package root:component;\n");
         self.open("world root");
         let functions = methods(imports(root));
-        for (name, of) in imports(root) {
-            let written = self.member("import", name, of, &functions);
-            self.note(written);
-        }
-        for (name, of) in exports(root) {
-            let written = self.member("export", name, of, &functions);
+        let imports = imports(root).map(|(name, of)| ("import", name, of));
+        let exports = exports(root).map(|(name, of)| ("export", name, of));
+        for (way, name, of) in imports.chain(exports) {
+            let written = self.member(way, name, of, &functions);
             self.note(written);
         }
         self.close();

@@ -3,59 +3,18 @@
 use std::fmt::{self, Display};
 
 /// The words that stand for something else in WIT.
-const KEYWORDS: &[&str] = &[
-    "_",
-    "as",
-    "async",
-    "bool",
-    "borrow",
-    "char",
-    "constructor",
-    "enum",
-    "error-context",
-    "export",
-    "f32",
-    "f64",
-    "flags",
-    "from",
-    "func",
-    "future",
-    "import",
-    "include",
-    "interface",
-    "list",
-    "map",
-    "option",
-    "own",
-    "package",
-    "record",
-    "resource",
-    "result",
-    "s16",
-    "s32",
-    "s64",
-    "s8",
-    "static",
-    "stream",
-    "string",
-    "tuple",
-    "type",
-    "u16",
-    "u32",
-    "u64",
-    "u8",
-    "use",
-    "variant",
-    "with",
-    "world",
-];
+const KEYWORDS: &str = "\
+    _ as async bool borrow char constructor enum error-context export f32 f64 flags from func \
+    future import include interface list map option own package record resource result s16 s32 \
+    s64 s8 static stream string tuple type u16 u32 u64 u8 use variant with world";
 
 /// A name, after `%` where it would be a keyword.
 pub struct Id<'a>(pub &'a str);
 
 impl Display for Id<'_> {
     fn fmt(&self, f: &mut fmt::Formatter<'_>) -> fmt::Result {
-        let mark = if KEYWORDS.contains(&self.0) { "%" } else { "" };
+        let is_keyword = KEYWORDS.split(' ').any(|word| word == self.0);
+        let mark = if is_keyword { "%" } else { "" };
         write!(f, "{mark}{}", self.0)
     }
 }
