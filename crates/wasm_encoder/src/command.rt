@@ -22,8 +22,7 @@ use wenc_parts::{AliasTree, ComponentExportKind, ComponentTypeRef, NameTree};
 use wenc_sections::{CanonTree, CoreInstanceTree, InstanceTree};
 use wenc_types::{CoreTypeTree, TypeTree};
 
-/// A builder call as data (component model, binary format, "Component Definitions"). Each index is
-/// from 0 to 4294967295.
+/// A builder call as data (component model, binary format, "Component Definitions").
 ///
 /// ```
 /// let import = Command::Import {

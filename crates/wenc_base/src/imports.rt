@@ -15,7 +15,7 @@ use std::alloc::Allocator;
 /// Types").
 #[derive(Clone, Copy, Debug, PartialEq, Eq)]
 pub enum EntityType {
-    /// A function, by the index of its type, from 0 to 4294967295.
+    /// A function, by the index of its type.
     Function(u32),
     /// A table.
     Table(TableType),

@@ -10,8 +10,8 @@ use std::alloc::Allocator;
 /// The type of an exception tag (WebAssembly 3.0, binary format, "Tag Types").
 #[derive(Clone, Copy, Debug, PartialEq, Eq)]
 pub struct TagType {
-    /// The index of the function type that is the exception's signature, from 0 to 4294967295: its
-    /// parameters are what an exception carries.
+    /// The index of the function type that is the exception's signature: its parameters are what
+    /// an exception carries.
     pub func_type_idx: u32,
 }
 

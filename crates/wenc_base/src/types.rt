@@ -128,7 +128,7 @@ impl DelimitedEq for RefType {
 pub enum HeapType {
     /// An abstract heap type.
     Abstract(AbstractHeapType),
-    /// The type with this index, from 0 to 4294967295.
+    /// The type with this index.
     Concrete(u32),
 }
 

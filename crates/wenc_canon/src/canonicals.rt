@@ -17,7 +17,7 @@ use wenc_base::{Delimited, DelimitedEq, Encode, Fault, Holder, Tagged, ValType};
 use wenc_parts::{ComponentSection, ComponentSectionId};
 
 /// An option of a function that is lifted or lowered, or of a builtin that reads or writes values
-/// (component model, binary format, `canonopt`). Indices are from 0 to 4294967295.
+/// (component model, binary format, `canonopt`).
 #[derive(Clone, Copy, Debug, PartialEq, Eq)]
 pub enum CanonicalOption {
     /// Strings are UTF-8.

@@ -12,8 +12,8 @@ use wenc_parts::{AliasTree, ComponentExportKind, ComponentTypeRef, NameTree};
 use wenc_sections::{CanonTree, CoreInstanceTree, InstanceTree};
 use wenc_types::{CoreTypeTree, TypeTree};
 
-/// An item of a component, as read (component model, binary format, "Component Definitions"). Each
-/// index is from 0 to 4294967295, and needn't be defined.
+/// An item of a component, as read (component model, binary format, "Component Definitions"). Its
+/// indices may be out of range.
 #[derive(Drop)]
 pub enum ItemTree<A: Allocator = Global> {
     /// A core module, as its bytes, which aren't read.

@@ -11,7 +11,7 @@ use wenc_view::{
 };
 
 /// An item of a component, which borrows from the component (component model, binary format,
-/// "Component Definitions"). Each index is from 0 to 4294967295, and needn't be defined.
+/// "Component Definitions"). Its indices may be out of range.
 #[derive(Clone, Copy)]
 pub enum ItemView<'a> {
     /// A core module, as its bytes, which aren't read.

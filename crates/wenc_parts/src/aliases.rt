@@ -61,7 +61,7 @@ impl DelimitedEq for ComponentOuterAliasKind {
 pub enum Alias<'a> {
     /// An export of a component instance.
     InstanceExport {
-        /// The index of the instance, from 0 to 4294967295.
+        /// The index of the instance.
         instance: u32,
         /// The kind of the export.
         kind: ComponentExportKind,
@@ -70,7 +70,7 @@ pub enum Alias<'a> {
     },
     /// An export of a core instance.
     CoreInstanceExport {
-        /// The index of the core instance, from 0 to 4294967295.
+        /// The index of the core instance.
         instance: u32,
         /// The kind of the export.
         kind: ExportKind,
@@ -121,7 +121,7 @@ impl<'a> Delimited for Alias<'a> {
 pub enum AliasTree<A: Allocator = Global> {
     /// An export of a component instance.
     InstanceExport {
-        /// The index of the instance, from 0 to 4294967295.
+        /// The index of the instance.
         instance: u32,
         /// The kind of the export.
         kind: ComponentExportKind,
@@ -130,7 +130,7 @@ pub enum AliasTree<A: Allocator = Global> {
     },
     /// An export of a core instance.
     CoreInstanceExport {
-        /// The index of the core instance, from 0 to 4294967295.
+        /// The index of the core instance.
         instance: u32,
         /// The kind of the export.
         kind: ExportKind,

@@ -20,7 +20,7 @@ use wenc_base::{Delimited, DelimitedEq, Encode, Fault, Tagged, encode_byte};
 /// The bounds of an imported or exported type (component model, binary format, `typebound`).
 #[derive(Clone, Copy, Debug, PartialEq, Eq, Hash)]
 pub enum TypeBounds {
-    /// Equal to the type with this index, from 0 to 4294967295.
+    /// Equal to the type with this index.
     Eq(u32),
     /// A fresh resource type.
     SubResource,

@@ -10,7 +10,7 @@ use wenc_base::{Delimited, DelimitedEq, Encode, Fault, Tagged};
 /// `core:instantiatearg`).
 #[derive(Clone, Copy, Debug, PartialEq, Eq)]
 pub enum ModuleArg {
-    /// The core instance with this index, from 0 to 4294967295.
+    /// The core instance with this index.
     Instance(u32),
 }
 

@@ -87,7 +87,7 @@ impl DelimitedEq for PrimitiveValType {
 pub enum ComponentValType {
     /// A primitive type.
     Primitive(PrimitiveValType),
-    /// The defined type with this index, from 0 to 4294967295.
+    /// The defined type with this index.
     Type(u32),
 }
 

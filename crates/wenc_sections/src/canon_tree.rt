@@ -13,7 +13,7 @@ use wenc_parts::{ComponentValType, ResultList};
 
 /// A canonical function, as a tree (component model, binary format, "Canonical Definitions").
 ///
-/// Each index is from 0 to 4294967295. More than 4294967295 options can't be encoded (`TooMany`).
+/// More than 4294967295 options can't be encoded (`TooMany`).
 ///
 /// ```
 /// let mut sink = Vec::new(alloc);

@@ -26,13 +26,12 @@ use wenc_parts::{ComponentExportKind, ModuleArg, NameTree};
 pub enum CoreInstanceTree<A: Allocator = Global> {
     /// Instantiates a core module with these arguments, each with its name.
     Instantiate {
-        /// The index of the module, from 0 to 4294967295.
+        /// The index of the module.
         module: u32,
         /// The arguments, in order.
         args: Vec<(String<A>, ModuleArg), A>,
     },
-    /// Groups core items, which the instance exports: the name of each, its kind, and its
-    /// index, from 0 to 4294967295.
+    /// Groups core items, which the instance exports: the name of each, its kind, and its index.
     Exports(Vec<(String<A>, ExportKind, u32), A>),
 }
 
@@ -72,14 +71,12 @@ impl<A: Allocator> Delimited for CoreInstanceTree<A> {
 pub enum InstanceTree<A: Allocator = Global> {
     /// Instantiates a component with these arguments.
     Instantiate {
-        /// The index of the component, from 0 to 4294967295.
+        /// The index of the component.
         component: u32,
-        /// The arguments, in order: the name of each, its kind, and its index, from 0 to
-        /// 4294967295.
+        /// The arguments, in order: the name of each, its kind, and its index.
         args: Vec<(String<A>, ComponentExportKind, u32), A>,
     },
-    /// Groups items, which the instance exports: the name of each, its kind, and its index, from 0
-    /// to 4294967295.
+    /// Groups items, which the instance exports: the name of each, its kind, and its index.
     Exports(Vec<(NameTree<A>, ComponentExportKind, u32), A>),
 }
 

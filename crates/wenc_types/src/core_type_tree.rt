@@ -76,25 +76,23 @@ pub enum ModuleDecl<A: Allocator = Global> {
         module: String<A>,
         /// The name of the import in that module.
         name: String<A>,
-        /// The type of the import. Type indices are of this module type's index space, from 0 to
-        /// 4294967295.
+        /// The type of the import. Type indices are of this module type's index space.
         ty: EntityType,
     },
     /// A type, or a group of types, which takes the next type index.
     Type(GroupTree<A>),
     /// An alias of a core type of an enclosing scope, which takes the next type index.
     Alias {
-        /// The number of scopes outwards, from 0 to 4294967295: 0 is this module type.
+        /// The number of scopes outwards: 0 is this module type.
         count: u32,
-        /// The index of the core type in that scope, from 0 to 4294967295.
+        /// The index of the core type in that scope.
         index: u32,
     },
     /// An export of the module.
     Export {
         /// The name of the export.
         name: String<A>,
-        /// The type of the export. Type indices are of this module type's index space, from 0 to
-        /// 4294967295.
+        /// The type of the export. Type indices are of this module type's index space.
         ty: EntityType,
     },
 }

@@ -56,7 +56,7 @@ pub enum TypeTree<A: Allocator = Global> {
     Resource {
         /// The representation of a resource.
         rep: ValType,
-        /// The index of the destructor, a core function, from 0 to 4294967295, if there is one.
+        /// The index of the destructor, a core function, if there is one.
         dtor: Option<u32>,
     },
 }
@@ -76,8 +76,7 @@ pub enum InstanceDecl<A: Allocator = Global> {
     Export {
         /// The name of the export. A string of more than 4294967295 bytes can't be encoded.
         name: NameTree<A>,
-        /// The type of the export. Type indices are of this instance type's index space, from 0 to
-        /// 4294967295.
+        /// The type of the export. Type indices are of this instance type's index space.
         ty: ComponentTypeRef,
     },
 }
@@ -90,8 +89,7 @@ pub enum ComponentDecl<A: Allocator = Global> {
     Import {
         /// The name of the import. A string of more than 4294967295 bytes can't be encoded.
         name: NameTree<A>,
-        /// The type of the import. Type indices are of this component type's index space, from 0 to
-        /// 4294967295.
+        /// The type of the import. Type indices are of this component type's index space.
         ty: ComponentTypeRef,
     },
     /// A declaration that an instance type can have too.

@@ -45,7 +45,7 @@ pub enum DefinedView<'a> {
     FixedLengthList {
         /// The element type.
         element: ComponentValType,
-        /// The number of elements, from 0 to 4294967295.
+        /// The number of elements.
         length: u32,
     },
     /// A tuple, by the types of its elements in order.
@@ -63,9 +63,9 @@ pub enum DefinedView<'a> {
         /// The payload type of failure.
         err: Option<ComponentValType>,
     },
-    /// An owned handle to a resource, by the index of the resource type, from 0 to 4294967295.
+    /// An owned handle to a resource, by the index of the resource type.
     Own(u32),
-    /// A borrowed handle to a resource, by the index of the resource type, from 0 to 4294967295.
+    /// A borrowed handle to a resource, by the index of the resource type.
     Borrow(u32),
     /// A future, optionally with a payload type.
     Future(Option<ComponentValType>),

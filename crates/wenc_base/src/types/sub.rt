@@ -18,7 +18,7 @@ use std::alloc::{Allocator, Global};
 pub struct SubType<A: Allocator = Global> {
     /// Whether no type may extend it.
     pub is_final: bool,
-    /// The index of the type that it extends, from 0 to 4294967295, if there is one.
+    /// The index of the type that it extends, if there is one.
     pub supertype_idx: Option<u32>,
     /// The composite type.
     pub composite_type: CompositeType<A>,

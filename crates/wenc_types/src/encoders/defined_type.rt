@@ -111,7 +111,7 @@ impl<'a, L: Parent> ComponentDefinedTypeEncoder<'a, L> {
         self.parent.end_with(&Tagged(0x63, &(key, value)))
     }
 
-    /// Defines a list of this length, from 0 to 4294967295.
+    /// Defines a list of this length.
     pub fn fixed_length_list(self, ty: ComponentValType, length: u32) -> Result<(), Fault>
         ensures { Ends L.appended L.ended L.refuses self.entry.parent.now self.exit.0.now result
             (def_val_type (FixedLengthList ty length)) }
