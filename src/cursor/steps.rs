@@ -71,7 +71,7 @@ impl<'a> Steps<'a> {
     fn next_item(&mut self) -> Option<Step<'a>> {
         let (items, section) = self.items.as_mut()?;
         let (left, count) = items.left()?;
-        Some(match items.next()? {
+        Some(match items.next_apart()? {
             Ok((range, item)) => Step::Item { place: range.start, end: left.end, item },
             Err(fault) => Step::Unread { fault, section: *section, place: left.start, count },
         })

@@ -72,6 +72,7 @@ impl ScopeFault {
 }
 
 impl fmt::Display for ScopeFault {
+    #[inline]
     fn fmt(&self, f: &mut fmt::Formatter<'_>) -> fmt::Result {
         match *self {
             Self::OutOfRange { place, space, index, count } => {
