@@ -63,7 +63,7 @@ class Maker:
         text = word(at)
         if text in ("if", "while") and word(at + 1) != "let":
             end = at + 1
-            while word(end) not in ("{", ""):
+            while word(end) not in ("{", "=>", ""):
                 end = self.source.partner.get(end, end) + 1
             if all(word(n) != "let" for n in range(at, end)):
                 self.put("negated", at + 1, end - 1,
