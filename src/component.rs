@@ -94,9 +94,9 @@ impl<S: ComponentSection + ?Sized> proved::ComponentSection for Foreign<'_, S> {
     }
 }
 
-/// Implements the calls of what is built section by section. What follows is the example.
+/// Implements the calls of what is built section by section, given the docs of `try_new`.
 macro_rules! built {
-    ($name:ident of $section:ident, $what:literal: $(#[$example:meta])*) => {
+    ($name:ident of $section:ident, $what:literal: $(#[$doc:meta])*) => {
         impl $name {
             #[doc = concat!("The first bytes of every ", $what, ".")]
             pub const HEADER: [u8; 8] = <$crate::proved::wasm_encoder::$name>::HEADER;
@@ -110,13 +110,7 @@ macro_rules! built {
                 $crate::error::or_panic(Self::try_new())
             }
 
-            /// Does what [`new`](Self::new) does, but returns an error instead of panicking.
-            ///
-            /// # Errors
-            ///
-            /// [`NoMemory`](crate::Error::NoMemory).
-            ///
-            $(#[$example])*
+            $(#[$doc])*
             pub fn try_new() -> Result<Self, $crate::Error> {
                 Ok(Self { bytes: $crate::encode::copied(Self::HEADER)? })
             }
@@ -176,6 +170,12 @@ pub struct Component {
 
 built! {
     Component of ComponentSection, "component":
+    /// Does what [`new`](Self::new) does, but returns an error instead of panicking.
+    ///
+    /// # Errors
+    ///
+    /// [`NoMemory`](crate::Error::NoMemory).
+    ///
     /// ```
     /// use wenc::{Component, CustomSection};
     ///

@@ -187,6 +187,12 @@ pub struct Module {
 
 built! {
     Module of Section, "module":
+    /// Does what [`new`](Self::new) does, but returns an error instead of panicking.
+    ///
+    /// # Errors
+    ///
+    /// [`NoMemory`](crate::Error::NoMemory).
+    ///
     /// ```
     /// use wenc::{CustomSection, Module};
     ///
