@@ -383,6 +383,8 @@ fn each_call_is_told_of() {
         }
         assert_eq!(content(held), content(begin()), "{name}");
     }
+    // a module type without declarations
+    assert_eq!(content(Held::types(0))[8..], *b"\x03\x03\x01\x50\0");
 }
 
 /// A call that succeeds keeps the error of a call before it, whether that only reads or not.

@@ -44,11 +44,14 @@ fn value_types_of_one_byte() {
     let reference =
         |nullable, ty| ValType::Ref(RefType { nullable, heap_type: HeapType::Abstract(ty) });
     let (func, extern_) = (AbstractHeapType::Func, AbstractHeapType::Extern);
-    let kept = [ValType::I32, ValType::I64, ValType::F32, ValType::F64, ValType::V128];
-    let kept = [&kept[..], &[reference(true, func), reference(true, extern_)]].concat();
+    let numbers = [ValType::I32, ValType::I64, ValType::F32, ValType::F64, ValType::V128];
+    let kept = [&numbers[..], &[reference(true, func), reference(true, extern_)]].concat();
     let mut types = ByteTypes::new();
     check(&types, b"\x00");
-    for ty in &kept {
+    for (at, ty) in kept.iter().enumerate() {
+        if at == numbers.len() {
+            check(&types, b"\x05\x7f\x7e\x7d\x7c\x7b");
+        }
         assert!(types.push_using(*ty));
     }
     for (nullable, ty) in [(false, func), (false, extern_), (true, AbstractHeapType::Any)] {
