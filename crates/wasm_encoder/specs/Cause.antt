@@ -4,7 +4,7 @@ use Rattle.wenc_base.specs.Fault.{first_of}
 use Rattle.wenc_base.specs.declared.fault.Fault.{Fault}
 use Rattle.wenc_builder.specs.Entry.{Entry, entry, items, EntryCause}
 use Rattle.wenc_builder.specs.Item.{ComponentItem}
-use Rattle.wenc_builder.specs.Names.{names_entry}
+use Rattle.wenc_builder.specs.DebugNames.{names_entry}
 use Rattle.wenc_builder.specs.Sections.{whole}
 use Rattle.wenc_builder.specs.Space.{index_of}
 use Rattle.wasm_encoder.specs.Command.{CommandTree, Add, Nest, AppendNames, Commands, no_more, then}

@@ -7,16 +7,16 @@ ghost use Rattle.wenc_base.specs.Prelude.{u64 as long_number, count, i64 as sign
 ghost use Rattle.wenc_base.specs.Prelude.{byte_list, option, in_order, verbatim, IsMemory};
 
 mod front;
-mod lists;
 mod named;
 mod sized;
+mod slices;
 
 use crate::fault::Fault;
 use crate::number::encoding_size;
 use crate::short::Short;
-pub use lists::encode_list;
 pub use named::Named;
 pub use sized::WithSize;
+pub use slices::encode_list;
 use std::alloc::Allocator;
 
 /// A value with an encoding in the binary format (WebAssembly 3.0, binary format, "Values").

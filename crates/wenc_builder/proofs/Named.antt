@@ -23,7 +23,7 @@ use Rattle.wenc_builder.specs.Prelude.{Buffered, CustomItem, EntersWithoutIndex,
 use Rattle.wenc_builder.specs.Prelude.{IsItemText, Spaced, State, builder_is_finished, builder_view}
 use Rattle.wenc_builder.specs.Prelude.{by_space, custom_entry, item, named_entry, names, names_held}
 use Rattle.wenc_builder.specs.Prelude.{namespace_at, none_named, space_names, with_bytes}
-use Rattle.wenc_builder.specs.Names.{named_spaces, name_subsections, kept_names}
+use Rattle.wenc_builder.specs.DebugNames.{named_spaces, name_subsections, kept_names}
 use Rattle.wenc_base.proofs.Bytes.{last_below}
 use Rattle.wenc_builder.proofs.OwnSections.{stands_as, stood_nowhere}
 use Rattle.wenc_builder.proofs.Entered.{without_index_enters}

@@ -8,7 +8,7 @@ pub mod Cause
 pub mod Enters
 pub mod Adds
 pub mod ParentState
-pub mod Names
+pub mod DebugNames
 pub mod Producers
 pub mod inside
 pub mod laws

@@ -32,8 +32,8 @@ pub use Rattle.wenc_builder.specs.Enters.{EntersWithoutIndex, IsCountAt}
 pub use Rattle.wenc_builder.specs.Adds.{AddsItem, AddsWholeItem}
 pub use Rattle.wenc_builder.specs.ParentState.{IsItemText, builder_is_opened, is_whole}
 pub use Rattle.wenc_builder.specs.ParentState.{no_room_in_section}
-pub use Rattle.wenc_builder.specs.Names.{AddsNames, by_space, named_entry, names_entry, names_held}
-pub use Rattle.wenc_builder.specs.Names.{none_named, space_names}
+pub use Rattle.wenc_builder.specs.DebugNames.{AddsNames, by_space, named_entry, names_entry, names_held}
+pub use Rattle.wenc_builder.specs.DebugNames.{none_named, space_names}
 pub use Rattle.wenc_builder.specs.Producers.{producers_entry}
 pub use Rattle.wenc_builder.specs.inside.SectionBodies.{custom_lead, with_bytes}
 pub use Rattle.wenc_builder.specs.inside.Layout.{AppendsSection, Buffered, IsLaidOut, OpensAnother}

@@ -29,18 +29,18 @@ ghost use Rattle.wenc_sections.specs.declared.space.Space.TheVariants as spaces;
 
 mod buffer;
 mod canonicals;
+mod debug_names;
 mod earlier;
 mod flush;
 mod functions;
 mod instances;
 mod kind;
-mod names;
 mod namespace;
 mod producers;
 mod section_body;
 mod spaces;
 mod trees;
-mod types;
+mod type_items;
 
 use buffer::Buffer;
 use kind::Kind;

@@ -10,7 +10,7 @@ ghost use Rattle.wenc_types.specs.Prelude.{labelled_type_view, case_view, define
 pub mod canonicals;
 pub mod core_types;
 pub mod instances;
-pub mod types;
+pub mod type_trees;
 
 use std::alloc::{AllocError, Allocator};
 use wenc_parts::{Alias, AliasTree, ComponentValType, NameOptions, NameTree};

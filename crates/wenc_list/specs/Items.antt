@@ -17,8 +17,8 @@ use Rattle.wenc_view.specs.CoreTypes.{core_type_seen, IsCountedCoreType}
 use Rattle.wenc_view.specs.Instances.{core_instance_seen, instance_seen}
 use Rattle.wenc_view.specs.Instances.{IsCountedCoreInstance, IsCountedInstance}
 use Rattle.wenc_view.specs.Members.{list_view, IsCounted}
-use Rattle.wenc_view.specs.Names.{name_seen}
-use Rattle.wenc_view.specs.Types.{type_seen, IsCountedType}
+use Rattle.wenc_view.specs.ExternNames.{name_seen}
+use Rattle.wenc_view.specs.TypeViews.{type_seen, IsCountedType}
 use Rattle.wenc_list.specs.declared.item.ItemTree.{ItemTree}
 use Rattle.wenc_list.specs.declared.item.ItemTree.TheVariants as trees
 use Rattle.wenc_list.specs.declared.item_view.ItemView.{ItemView}

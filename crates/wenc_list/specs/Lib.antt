@@ -1,7 +1,7 @@
 pub mod Cursor
 pub mod Items
 pub mod Listing
-pub mod Names
+pub mod DebugNames
 pub mod Producers
 pub mod inside
 pub mod laws

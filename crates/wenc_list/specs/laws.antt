@@ -1,3 +1,3 @@
 -- Why the readers of names and of producers find what is read and nothing else.
-pub mod Names
+pub mod DebugNames
 pub mod Producers

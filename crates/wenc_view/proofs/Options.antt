@@ -8,7 +8,7 @@ use Rattle.wenc_parts.specs.Imports.{NameOption, name_option}
 use Rattle.wenc_parts.specs.laws.Imports.{name_option_sound}
 use Rattle.wenc_parts.specs.reading.Imports.{read_name_option}
 use Rattle.wenc_parts.specs.reading.Imports.{option_number, ascend_from, given_options}
-use Rattle.wenc_view.specs.inside.Names.{ascending, read_options}
+use Rattle.wenc_view.specs.inside.ExternNames.{ascending, read_options}
 
 abbrev Found : Type 0
 Found = Result (List NameOption × List ℕ) Flaw

@@ -6,7 +6,7 @@ use Rattle.wenc_sections.specs.CanonTrees.{canon_of}
 use Rattle.wenc_sections.specs.declared.canon_tree.CanonOf.{CanonOf}
 use Rattle.wenc_sections.specs.declared.canon_tree.CanonOf.TheVariants as kinds
 use Rattle.wenc_view.specs.Members.{list_view, IsCounted}
-use Rattle.wenc_view.specs.declared.lists.ListOf.{ListOf}
+use Rattle.wenc_view.specs.declared.list_of.ListOf.{ListOf}
 
 abbrev pub canon_seen : CanonOf (ListOf CanonicalOption) → Canonical
 canon_seen f = canon_of (list_view read_canonical_option) f

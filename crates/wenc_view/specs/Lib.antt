@@ -1,13 +1,13 @@
 pub mod Canonicals
 pub mod Instances
 pub mod Gives
-pub mod Types
+pub mod TypeViews
 pub mod Texts
 pub mod CoreTypes
 pub mod Depth
 pub mod DefinedTypes
 pub mod Members
-pub mod Names
+pub mod ExternNames
 pub mod Prelude
 pub mod inside
 pub mod laws

@@ -2,7 +2,7 @@
 use Rattle.std.specs.Prelude.{◌≡◌, ℕ, zero, suc, List, [], ◌∷◌, length, Option, Some, None}
 use Rattle.std.specs.Prelude.{Result, Ok, Err}
 use Rattle.wenc_base.specs.Readers.{Flaw, Reader}
-use Rattle.wenc_view.specs.declared.lists.ListOf.{ListOf}
+use Rattle.wenc_view.specs.declared.list_of.ListOf.{ListOf}
 
 -- a value that was read, and those after it
 abbrev pub and_more : {A : Type 0} → (List ℕ → List A) → Result (A × List ℕ) Flaw → List A

@@ -1,11 +1,11 @@
 -- The names that clauses cite, re-exported from the files that define them.
 pub use Rattle.wenc_view.specs.Members.{members_of, list_view, GivesFirst, IsCounted}
-pub use Rattle.wenc_view.specs.Names.{name_seen}
+pub use Rattle.wenc_view.specs.ExternNames.{name_seen}
 pub use Rattle.wenc_view.specs.Texts.{name_error}
-pub use Rattle.wenc_view.specs.inside.Names.{option_seen, read_options}
+pub use Rattle.wenc_view.specs.inside.ExternNames.{option_seen, read_options}
 pub use Rattle.wenc_view.specs.Depth.{OpensTypes}
 pub use Rattle.wenc_view.specs.inside.Tables.{find}
-pub use Rattle.wenc_view.specs.inside.Types.{primitive_types, read_defined_row, handle_rows}
+pub use Rattle.wenc_view.specs.inside.TypeViews.{primitive_types, read_defined_row, handle_rows}
 pub use Rattle.wenc_parts.specs.declared.imports.ComponentTypeRef.{ComponentTypeRef}
 pub use Rattle.wenc_parts.specs.declared.imports.TypeBounds.{TypeBounds}
 pub use Rattle.wenc_parts.specs.declared.types.ComponentValType.{ComponentValType}
@@ -32,11 +32,11 @@ pub use Rattle.wenc_base.specs.declared.types.storage.StorageType.{StorageType}
 pub use Rattle.wenc_parts.specs.declared.exports.ComponentExportKind.{ComponentExportKind}
 pub use Rattle.wenc_parts.specs.declared.instances.ModuleArg.{ModuleArg}
 pub use Rattle.wenc_view.specs.Gives.{GivesNested}
-pub use Rattle.wenc_view.specs.Types.{type_seen, instance_declaration_seen}
-pub use Rattle.wenc_view.specs.Types.{component_declaration_seen, IsCountedType}
-pub use Rattle.wenc_view.specs.Types.{IsCountedInstanceDecl, IsCountedComponentDecl}
-pub use Rattle.wenc_view.specs.Types.{component_members, instance_members, type_nests}
-pub use Rattle.wenc_view.specs.Types.{instance_declaration_nests, component_declaration_nests}
+pub use Rattle.wenc_view.specs.TypeViews.{type_seen, instance_declaration_seen}
+pub use Rattle.wenc_view.specs.TypeViews.{component_declaration_seen, IsCountedType}
+pub use Rattle.wenc_view.specs.TypeViews.{IsCountedInstanceDecl, IsCountedComponentDecl}
+pub use Rattle.wenc_view.specs.TypeViews.{component_members, instance_members, type_nests}
+pub use Rattle.wenc_view.specs.TypeViews.{instance_declaration_nests, component_declaration_nests}
 pub use Rattle.wenc_view.specs.Canonicals.{canon_seen, IsCountedCanon}
 pub use Rattle.wenc_view.specs.Instances.{core_instance_seen, instance_seen, IsCountedCoreInstance}
 pub use Rattle.wenc_view.specs.Instances.{IsCountedInstance}

@@ -2,5 +2,5 @@ pub mod Canonicals
 pub mod CoreTypes
 pub mod Entities
 pub mod Tables
-pub mod Types
-pub mod Names
+pub mod TypeViews
+pub mod ExternNames

@@ -10,7 +10,7 @@ ghost use Rattle.wenc_view.specs.Prelude.{read_waited_memory, CanonicalOption as
 ghost use Rattle.wenc_view.specs.Prelude.{canon_seen, list_view, IsCounted, IsCountedCanon};
 ghost use Rattle.wenc_read.specs.Prelude.{Gives, IsWithin, read_by};
 
-use crate::lists::ListOf;
+use crate::list_of::ListOf;
 use crate::pairs::both;
 use crate::view::View;
 use wenc_canon::CanonicalOption;

@@ -9,7 +9,7 @@ ghost use Rattle.wenc_base.specs.Prelude.{sub_type_sound, sub_type_lawful, RecTy
 ghost use Rattle.wenc_base.specs.Prelude.{group_lawful};
 ghost use Rattle.wenc_read.specs.Prelude.{Gives, IsWithin, read_by};
 
-use crate::lists::ListOf;
+use crate::list_of::ListOf;
 use crate::view::View;
 use wenc_base::{FieldType, StorageType, ValType};
 use wenc_read::{Expected, Refusal, byte};

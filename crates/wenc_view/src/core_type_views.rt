@@ -8,7 +8,7 @@ ghost use Rattle.wenc_types.specs.Prelude.{module_declaration_sound, module_decl
 ghost use Rattle.wenc_types.specs.Prelude.{CoreType, core_type_sound, core_type_lawful};
 
 use crate::composites::{GroupView, SubView, open};
-use crate::lists::ListOf;
+use crate::list_of::ListOf;
 use crate::view::{View, text_of};
 use wenc_base::EntityType;
 use wenc_read::{Expected, Refusal, byte};

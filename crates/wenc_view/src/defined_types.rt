@@ -8,8 +8,8 @@ ghost use Rattle.wenc_types.specs.Prelude.{defined_type_lawful};
 ghost use Rattle.wenc_view.specs.Prelude.{labelled_seen, case_seen, defined_seen, read_defined_row};
 ghost use Rattle.wenc_view.specs.Prelude.{handle_rows, defined_sound, IsCountedDefined};
 
-use crate::lists::ListOf;
-use crate::types::primitive_of;
+use crate::list_of::ListOf;
+use crate::value_types::primitive_of;
 use crate::view::View;
 use wenc_parts::{ComponentValType, PrimitiveValType};
 use wenc_read::{Expected, Refusal, byte};

@@ -14,8 +14,8 @@ ghost use Rattle.wenc_sections.specs.Prelude.{triple_sound, triple_lawful, CoreI
 ghost use Rattle.wenc_sections.specs.Prelude.{core_instance_sound, core_instance_lawful};
 ghost use Rattle.wenc_sections.specs.Prelude.{instance_sound, instance_lawful};
 
-use crate::lists::ListOf;
-use crate::names::NameView;
+use crate::extern_names::NameView;
+use crate::list_of::ListOf;
 use crate::view::{View, text_of};
 use wenc_base::ExportKind;
 use wenc_parts::{ComponentExportKind, ModuleArg};

@@ -14,22 +14,22 @@ pub mod core_types;
 pub mod defined_types;
 pub mod entities;
 pub mod exports;
+pub mod extern_names;
 pub mod imports;
 pub mod instances;
 pub mod laws;
-pub mod lists;
-pub mod names;
+pub mod list_of;
 mod pairs;
 pub mod type_views;
-pub mod types;
+pub mod value_types;
 pub mod view;
 
 pub use canonicals::CanonView;
 pub use core_type_views::CoreTypeView;
 pub use defined_types::{CaseView, DefinedView};
+pub use extern_names::NameView;
 pub use instances::{CoreInstanceView, InstanceView};
-pub use lists::ListOf;
-pub use names::NameView;
+pub use list_of::ListOf;
 pub use type_views::{
     ComponentDeclView, ComponentDecls, InstanceDeclView, InstanceDecls, TypeView, type_at,
 };

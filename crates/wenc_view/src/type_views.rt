@@ -16,8 +16,8 @@ ghost use Rattle.wenc_view.specs.Prelude.{IsCountedComponentDecl};
 
 use crate::core_type_views::CoreTypeView;
 use crate::defined_types::DefinedView;
-use crate::lists::ListOf;
-use crate::names::NameView;
+use crate::extern_names::NameView;
+use crate::list_of::ListOf;
 use crate::view::View;
 use wenc_base::ValType;
 use wenc_parts::{Alias, ComponentTypeRef, ComponentValType, ResultList};

@@ -6,7 +6,7 @@ ghost use Rattle.wenc_builder.specs.Prelude.{namespace_at, SpaceCause, by_space,
 ghost use Rattle.wenc_builder.specs.Prelude.{empty_spaces, namespace_with};
 ghost use Rattle.wenc_builder.specs.Prelude.{spaces_with, some_in, undo_at, IsOf, undone};
 
-use super::names::{SpaceNames, Subsections};
+use super::debug_names::{SpaceNames, Subsections};
 use super::namespace::Namespace;
 use std::alloc::{Allocator, Global};
 use std::marker::Model;

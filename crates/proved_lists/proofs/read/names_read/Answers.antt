@@ -1,4 +1,4 @@
-use Rattle.wenc_list.specs.Names.{names_view}
+use Rattle.wenc_list.specs.DebugNames.{names_view}
 use Rattle.proved_lists.proofs.ReadSo.{what_is_read, none_at_all}
 use Rattle.proved_lists.proofs.read.names_read.Goals as goal
 

@@ -1,4 +1,4 @@
-use Rattle.wenc_view.specs.Types.{type_seen}
+use Rattle.wenc_view.specs.TypeViews.{type_seen}
 use Rattle.proved_lists.proofs.ReadSo.{type_given, no_type, too_deep}
 use Rattle.proved_lists.proofs.read.type_within.Goals as goal
 

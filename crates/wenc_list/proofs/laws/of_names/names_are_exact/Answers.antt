@@ -1,4 +1,4 @@
-use Rattle.wenc_list.specs.laws.Names.{names_exact, part_exact}
+use Rattle.wenc_list.specs.laws.DebugNames.{names_exact, part_exact}
 use Rattle.wenc_list.proofs.laws.of_names.names_are_exact.Goals as goal
 
 pub returns-clause-names : goal.returns-clause-names
