@@ -102,7 +102,7 @@ const GHOST: &str = "a ghost item that is not known";
 const DROP: &str = "a use of `Drop` that is no bound";
 const KIT: &str = "a path that begins with a crate of the kit";
 const CLONE_METHOD: &str = "a `clone` that is no method";
-const CLONE: &str = "a `Clone` that is no bound";
+const CLONE: &str = "a `Clone` that is no bound or `impl`";
 
 /// What is refused: the line, the reason, and the source.
 const REFUSED: &[(usize, &str, &str)] = &[

@@ -73,7 +73,7 @@ pub const ATTRIBUTES: [&str; 5] = [
 pub const OF_TREES: &str = "Clone, Debug, PartialEq, Eq, Hash";
 
 /// What a tree derives if it has `derive_where` for the others.
-pub const OF_COMPARED_TREES: &str = "Clone, Hash";
+pub const OF_COMPARED_TREES: &str = "Clone, Debug, Hash";
 
 /// Trees of items and of commands, whose values users of Rust compare, print and copy.
 pub const TREES: [&str; 22] = [
@@ -102,43 +102,51 @@ pub const TREES: [&str; 22] = [
 ];
 
 /// Types that derive more for users of Rust than their sources say, with the additional derives.
-pub const DERIVED_TOO: [(&str, &str); 36] = [
+pub const DERIVED_TOO: [(&str, &str); 44] = [
     ("AbstractHeapType", "Hash"),
     ("Alias", "Debug, Hash, PartialEq, Eq"),
-    ("ArrayType", "Hash"),
-    ("CanonOf", "Hash"),
-    ("CanonicalOption", "Hash"),
+    ("ArrayType", "Debug, Hash"),
+    ("CanonOf", "Clone, Debug, Hash"),
+    ("CanonicalOption", "Debug, Hash"),
     ("CaseView", "Debug, PartialEq, Eq, Hash"),
     ("ComponentDeclView", "Debug, PartialEq, Eq, Hash"),
     ("ComponentExportKind", "Hash"),
     ("ComponentOuterAliasKind", "Hash"),
     ("ComponentSectionId", "Hash"),
+    ("ComponentStartSection", "Debug"),
+    ("ComponentTypeRef", "Debug"),
+    ("ComponentValType", "Debug"),
     ("CompositeView", "Debug, PartialEq, Eq, Hash"),
     ("CoreInstanceView", "Debug, PartialEq, Eq, Hash"),
     ("CoreTypeView", "Debug, PartialEq, Eq, Hash"),
+    ("CustomSection", "Debug"),
     ("DefinedView", "Debug, PartialEq, Eq, Hash"),
-    ("EntityType", "Hash"),
+    ("EntityType", "Debug, Hash"),
     ("ExportKind", "Hash"),
     ("Fault", "Hash"),
-    ("FieldType", "Hash"),
-    ("GlobalType", "Hash"),
+    ("FieldType", "Debug, Hash"),
+    ("GlobalType", "Debug, Hash"),
     ("GroupView", "Debug, PartialEq, Eq, Hash"),
-    ("HeapType", "Hash"),
+    ("HeapType", "Debug, Hash"),
     ("InstanceDeclView", "Debug, PartialEq, Eq, Hash"),
     ("InstanceView", "Debug, PartialEq, Eq, Hash"),
     ("ItemView", "Debug, PartialEq, Eq, Hash"),
-    ("MemoryType", "Hash"),
+    ("MemoryType", "Debug, Hash"),
     ("ModuleArg", "Hash"),
     ("ModuleDeclView", "Debug, PartialEq, Eq, Hash"),
     ("NameView", "Debug, PartialEq, Eq, Hash"),
-    ("RefType", "Hash"),
+    ("RawCustomSection", "Debug"),
+    ("RawSection", "Debug"),
+    ("RefType", "Debug, Hash"),
+    ("ResultList", "Debug"),
     ("Space", "Hash, PartialOrd, Ord"),
-    ("StorageType", "Hash"),
+    ("StorageType", "Debug, Hash"),
     ("SubView", "Debug, PartialEq, Eq, Hash"),
-    ("TableType", "Hash"),
-    ("TagType", "Hash"),
+    ("TableType", "Debug, Hash"),
+    ("TagType", "Debug, Hash"),
+    ("TypeBounds", "Debug"),
     ("TypeView", "Debug, PartialEq, Eq, Hash"),
-    ("ValType", "Hash"),
+    ("ValType", "Debug, Hash"),
 ];
 
 /// Methods and fields that stay in this crate: contracts require of them what nothing tests, or

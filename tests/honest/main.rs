@@ -133,6 +133,7 @@ fn what_means_something_else_in_rust_is_found() {
             "fn f<T: Clone>() where A: B + Clone, {}",
             "fn f<T: TryClone>() where A: B + TryClone, {}",
         ),
+        ("impl<O: Copy> Clone for S<O> {}", "impl<O: Copy> TryClone for S<O> {}"),
         ("fn clone() { s.clone() }", "fn try_clone() { s.try_clone() }"),
     ] {
         assert_eq!(read(source, rust), Ok(()), "{source}");

@@ -235,7 +235,7 @@ impl<'a> Source<'a> {
             "core" | "alloc" | "thiserror" if next == "::" && last != "::" => {
                 Some("a crate that is another one in Rust")
             }
-            "Clone" => (!self.is_bound()).then_some("a name that is no bound"),
+            "Clone" => (!self.is_bound() && next != "for").then_some("a name that is no bound"),
             "clone" => {
                 let is_method = matches!((last, next), ("fn" | ".", "("));
                 (!is_method).then_some("a name that is no method")
@@ -391,9 +391,9 @@ impl<'a> Source<'a> {
     fn derive(&mut self, len: usize) -> Step {
         if self.stands("# [ derive ( Drop ) ]") {
             let is_compared = self.stands_at(len, "# [ derive_where");
-            let more = if is_compared { "" } else { "Debug, PartialEq, Eq, " };
+            let more = if is_compared { "" } else { "PartialEq, Eq, " };
             return if TREES.contains(&self.public_type(len)) {
-                step("derive of a tree", len, format!("#[derive(Clone, {more}Hash)]"))
+                step("derive of a tree", len, format!("#[derive(Clone, Debug, {more}Hash)]"))
             } else {
                 step("derive of Drop left out", len, "")
             };

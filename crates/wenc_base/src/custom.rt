@@ -21,7 +21,7 @@ use std::alloc::Allocator;
 /// })?;
 /// let bytes = component.finish();
 /// ```
-#[derive(Clone, Copy, Debug)]
+#[derive(Clone, Copy)]
 pub struct CustomSection<'a> {
     /// The name.
     pub name: &'a str,
@@ -66,7 +66,7 @@ impl<'a> Section for CustomSection<'a> {
 ///
 /// The bytes are written unchanged, and nothing checks that they form such a section. Encoding
 /// fails only if an allocation fails.
-#[derive(Clone, Copy, Debug)]
+#[derive(Clone, Copy)]
 pub struct RawCustomSection<'a>(pub &'a [u8]);
 
 impl<'a> Encode for RawCustomSection<'a> {

@@ -9,7 +9,7 @@ use crate::types::ValType;
 use std::alloc::Allocator;
 
 /// The type of a global variable (WebAssembly 3.0, binary format, "Global Types").
-#[derive(Clone, Copy, Debug, PartialEq, Eq)]
+#[derive(Clone, Copy, PartialEq, Eq)]
 pub struct GlobalType {
     /// The type of its value.
     pub val_type: ValType,

@@ -13,7 +13,7 @@ use std::alloc::Allocator;
 
 /// The type of an import or export of a core module (WebAssembly 3.0, binary format, "External
 /// Types").
-#[derive(Clone, Copy, Debug, PartialEq, Eq)]
+#[derive(Clone, Copy, PartialEq, Eq)]
 pub enum EntityType {
     /// A function, by the index of its type.
     Function(u32),

@@ -10,7 +10,7 @@ use std::alloc::Allocator;
 
 /// The type of a memory (WebAssembly 3.0, binary format, "Memory Types"). Shared memories aren't in
 /// that standard.
-#[derive(Clone, Copy, Debug, PartialEq, Eq)]
+#[derive(Clone, Copy, PartialEq, Eq)]
 pub struct MemoryType {
     /// The initial size in pages, from 0 to 18446744073709551615.
     pub minimum: u64,

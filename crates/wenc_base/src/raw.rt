@@ -10,7 +10,7 @@ use std::alloc::Allocator;
 /// "Sections").
 ///
 /// Encoding fails with `TooLarge` if the contents have more than 4294967295 bytes.
-#[derive(Clone, Copy, Debug)]
+#[derive(Clone, Copy)]
 pub struct RawSection<'a> {
     /// The id.
     pub id: u8,

@@ -10,7 +10,7 @@ use crate::types::RefType;
 use std::alloc::Allocator;
 
 /// The type of a table (WebAssembly 3.0, binary format, "Table Types").
-#[derive(Clone, Copy, Debug, PartialEq, Eq)]
+#[derive(Clone, Copy, PartialEq, Eq)]
 pub struct TableType {
     /// The type of its elements.
     pub element_type: RefType,

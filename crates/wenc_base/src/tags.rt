@@ -8,7 +8,7 @@ use crate::fault::Fault;
 use std::alloc::Allocator;
 
 /// The type of an exception tag (WebAssembly 3.0, binary format, "Tag Types").
-#[derive(Clone, Copy, Debug, PartialEq, Eq)]
+#[derive(Clone, Copy, PartialEq, Eq)]
 pub struct TagType {
     /// The index of the function type that is the exception's signature: its parameters are what
     /// an exception carries.

@@ -28,7 +28,7 @@ pub use storage::{FieldType, StorageType};
 pub use sub::SubType;
 
 /// A value type of a core module (WebAssembly 3.0, binary format, "Value Types").
-#[derive(Clone, Copy, Debug, PartialEq, Eq)]
+#[derive(Clone, Copy, PartialEq, Eq)]
 pub enum ValType {
     /// A 32-bit integer.
     I32,
@@ -89,7 +89,7 @@ impl DelimitedEq for ValType {
 }
 
 /// The type of a reference (WebAssembly 3.0, binary format, "Reference Types").
-#[derive(Clone, Copy, Debug, PartialEq, Eq)]
+#[derive(Clone, Copy, PartialEq, Eq)]
 pub struct RefType {
     /// Whether it is nullable.
     pub nullable: bool,
@@ -124,7 +124,7 @@ impl DelimitedEq for RefType {
 }
 
 /// The type of a reference's referent (WebAssembly 3.0, binary format, "Heap Types").
-#[derive(Clone, Copy, Debug, PartialEq, Eq)]
+#[derive(Clone, Copy, PartialEq, Eq)]
 pub enum HeapType {
     /// An abstract heap type.
     Abstract(AbstractHeapType),

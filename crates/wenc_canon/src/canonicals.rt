@@ -18,7 +18,7 @@ use wenc_parts::{ComponentSection, ComponentSectionId};
 
 /// An option of a function that is lifted or lowered, or of a builtin that reads or writes values
 /// (component model, binary format, `canonopt`).
-#[derive(Clone, Copy, Debug, PartialEq, Eq)]
+#[derive(Clone, Copy, PartialEq, Eq)]
 pub enum CanonicalOption {
     /// Strings are UTF-8.
     UTF8,

@@ -3,7 +3,7 @@
 
 /// The name of a canonical function, without the number of a slot, and its opcode: the first byte
 /// of its encoding.
-#[derive(Clone, Copy, Debug)]
+#[derive(Clone, Copy)]
 pub struct Row(pub &'static str, pub u8);
 
 /// The byte after the opcodes of `LIFT` and `LOWER`.

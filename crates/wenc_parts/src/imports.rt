@@ -18,7 +18,7 @@ use std::borrow::CowStr;
 use wenc_base::{Delimited, DelimitedEq, Encode, Fault, Tagged, encode_byte};
 
 /// The bounds of an imported or exported type (component model, binary format, `typebound`).
-#[derive(Clone, Copy, Debug, PartialEq, Eq, Hash)]
+#[derive(Clone, Copy, PartialEq, Eq, Hash)]
 pub enum TypeBounds {
     /// Equal to the type with this index.
     Eq(u32),
@@ -49,7 +49,7 @@ impl DelimitedEq for TypeBounds {
 
 /// The type of an import, or the type ascribed to an export (component model, binary format,
 /// `externdesc`).
-#[derive(Clone, Copy, Debug, PartialEq, Eq, Hash)]
+#[derive(Clone, Copy, PartialEq, Eq, Hash)]
 pub enum ComponentTypeRef {
     /// A core module, by the index of its core type.
     Module(u32),

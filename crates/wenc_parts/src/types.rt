@@ -83,7 +83,7 @@ impl DelimitedEq for PrimitiveValType {
 }
 
 /// A value type of a component (component model, binary format, `valtype`).
-#[derive(Clone, Copy, Debug, PartialEq, Eq, Hash)]
+#[derive(Clone, Copy, PartialEq, Eq, Hash)]
 pub enum ComponentValType {
     /// A primitive type.
     Primitive(PrimitiveValType),
@@ -115,7 +115,7 @@ impl DelimitedEq for ComponentValType {
 
 /// The result of a function: a value of this type, or none (component model, binary format,
 /// `resultlist`).
-#[derive(Clone, Copy, Debug, PartialEq, Eq)]
+#[derive(Clone, Copy, PartialEq, Eq)]
 pub struct ResultList(pub Option<ComponentValType>);
 
 impl Encode for ResultList {

@@ -5,7 +5,7 @@ ghost use Rattle.wenc_canon.specs.Prelude.{Lift, Lower, canonical, row_first_byt
 ghost use Rattle.wenc_canon.specs.Prelude.{builtin_name, canonical_lawful};
 ghost use Rattle.wenc_sections.specs.Prelude.{canon_view, operand_behind};
 
-use std::alloc::{Allocator, Global};
+use std::alloc::{AllocError, Allocator, Global};
 use wenc_base::{Delimited, Encode, Fault, Tagged, ValType};
 use wenc_canon::rows::{self, Row};
 use wenc_canon::{CanonicalOption, Fields, NotCancellable};
@@ -25,7 +25,7 @@ pub type CanonTree<A = Global> = CanonOf<Vec<CanonicalOption, A>>;
 /// A canonical function, whose options are an `O`: a `CanonTree` owns them, a `CanonView` borrows
 /// them. A `use` of its variants names `CanonOf`, not an alias.
 #[derive(Drop)]
-#[derive(Clone, Copy, Debug, PartialEq, Eq)]
+#[derive(Copy, PartialEq, Eq)]
 pub enum CanonOf<O> {
     /// `canon lift`: lifts a core function to a component function of this type.
     Lift {
@@ -209,6 +209,18 @@ pub enum CanonOf<O> {
     },
     /// `thread.available-parallelism`: returns how many threads can run at once.
     ThreadAvailableParallelism,
+}
+
+impl<O: Copy> Clone for CanonOf<O> {
+    ghost use Rattle.std.specs.Prelude.{◌≡◌, ⊤};
+
+    ghost is_clone = { λ x y. y ≡ x };
+
+    ghost is_infallible = { λ _. ⊤ };
+
+    fn clone(&self) -> Result<CanonOf<O>, AllocError> {
+        Ok(*self)
+    }
 }
 
 impl<A: Allocator> CanonTree<A> {

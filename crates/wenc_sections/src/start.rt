@@ -23,7 +23,7 @@ use wenc_parts::{ComponentSection, ComponentSectionId};
 /// };
 /// component.section(&start)?;
 /// ```
-#[derive(Clone, Copy, Debug)]
+#[derive(Clone, Copy)]
 pub struct ComponentStartSection<A> {
     /// The index of the function.
     pub function_index: u32,

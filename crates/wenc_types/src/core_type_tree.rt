@@ -28,7 +28,7 @@ use wenc_base::{
 /// let tree = CoreTypeTree::Module(vec![in alloc; ModuleDecl::Type(GroupTree::Sub(ty)), answer]?);
 /// ```
 #[derive(Drop)]
-#[derive_where(PartialEq, Eq, Debug)]
+#[derive_where(PartialEq, Eq)]
 pub enum CoreTypeTree<A: Allocator = Global> {
     /// Core types. A single one that others may extend is preceded by a byte `00`, since it would
     /// otherwise begin like a module type.
@@ -68,7 +68,7 @@ impl<A: Allocator> DelimitedEq for CoreTypeTree<A> {
 /// A declaration of a module type (component model, binary format, "Core Definitions"). A string of
 /// more than 4294967295 bytes can't be encoded.
 #[derive(Drop)]
-#[derive_where(PartialEq, Eq, Debug)]
+#[derive_where(PartialEq, Eq)]
 pub enum ModuleDecl<A: Allocator = Global> {
     /// An import of the module.
     Import {

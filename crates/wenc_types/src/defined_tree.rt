@@ -21,7 +21,7 @@ use wenc_parts::{ComponentValType, PrimitiveValType};
 /// let tree = DefinedTree::Flags(vec![in alloc; read, write]?);
 /// ```
 #[derive(Drop)]
-#[derive_where(PartialEq, Eq, Debug)]
+#[derive_where(PartialEq, Eq)]
 pub enum DefinedTree<A: Allocator = Global> {
     /// A primitive type.
     Primitive(PrimitiveValType),
@@ -117,7 +117,7 @@ impl<A: Allocator> DelimitedEq for DefinedTree<A> {
 /// A case of a variant (component model, binary format, "Type Definitions"). A string of more than
 /// 4294967295 bytes can't be encoded.
 #[derive(Drop)]
-#[derive_where(PartialEq, Eq, Debug)]
+#[derive_where(PartialEq, Eq)]
 pub struct CaseTree<A: Allocator = Global> {
     /// The name of the case.
     pub name: String<A>,

@@ -17,7 +17,7 @@ use std::alloc::{Allocator, Global};
 
 /// The type of a function (WebAssembly 3.0, binary format, "Composite Types").
 #[derive(Drop)]
-#[derive_where(PartialEq, Eq, Debug)]
+#[derive_where(PartialEq, Eq)]
 pub struct FuncType<A: Allocator = Global> {
     params: Vec<ValType, A>,
     results: Vec<ValType, A>,
@@ -98,7 +98,7 @@ impl<A: Allocator> DelimitedEq for FuncType<A> {
 
 /// The type of an array, given by its element type (WebAssembly 3.0, binary format, "Composite
 /// Types").
-#[derive(Clone, Copy, Debug, PartialEq, Eq)]
+#[derive(Clone, Copy, PartialEq, Eq)]
 pub struct ArrayType(pub FieldType);
 
 /// Encodes as a composite type.
@@ -122,7 +122,7 @@ impl DelimitedEq for ArrayType {
 
 /// The type of a structure (WebAssembly 3.0, binary format, "Composite Types").
 #[derive(Drop)]
-#[derive_where(PartialEq, Eq, Debug)]
+#[derive_where(PartialEq, Eq)]
 pub struct StructType<A: Allocator = Global> {
     /// The types of the fields, in order. More than 4294967295 can't be encoded.
     pub fields: Vec<FieldType, A>,
@@ -150,7 +150,7 @@ impl<A: Allocator> DelimitedEq for StructType<A> {
 /// The type of a function, an array or a structure (WebAssembly 3.0, binary format, "Composite
 /// Types").
 #[derive(Drop)]
-#[derive_where(PartialEq, Eq, Debug)]
+#[derive_where(PartialEq, Eq)]
 pub enum CompositeType<A: Allocator = Global> {
     /// A function.
     Func(FuncType<A>),

@@ -14,7 +14,7 @@ use std::alloc::{Allocator, Global};
 /// One type, or a group of types that a module defines together (WebAssembly 3.0, binary format,
 /// "Recursive Types").
 #[derive(Drop)]
-#[derive_where(PartialEq, Eq, Debug)]
+#[derive_where(PartialEq, Eq)]
 pub enum GroupTree<A: Allocator = Global> {
     /// A single type.
     Sub(SubType<A>),

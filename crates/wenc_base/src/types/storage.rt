@@ -10,7 +10,7 @@ use std::alloc::Allocator;
 
 /// The storage type of a structure field or an array element (WebAssembly 3.0, binary format,
 /// "Composite Types").
-#[derive(Clone, Copy, Debug, PartialEq, Eq)]
+#[derive(Clone, Copy, PartialEq, Eq)]
 pub enum StorageType {
     /// An 8-bit integer.
     I8,
@@ -45,7 +45,7 @@ impl DelimitedEq for StorageType {
 
 /// The type of a structure field or of the elements of an array (WebAssembly 3.0, binary format,
 /// "Composite Types").
-#[derive(Clone, Copy, Debug, PartialEq, Eq)]
+#[derive(Clone, Copy, PartialEq, Eq)]
 pub struct FieldType {
     /// The storage type.
     pub element_type: StorageType,

@@ -14,7 +14,7 @@ use std::alloc::{Allocator, Global};
 /// A composite type, the type that it extends, and whether it can itself be extended (WebAssembly
 /// 3.0, binary format, "Recursive Types").
 #[derive(Drop)]
-#[derive_where(PartialEq, Eq, Debug)]
+#[derive_where(PartialEq, Eq)]
 pub struct SubType<A: Allocator = Global> {
     /// Whether no type may extend it.
     pub is_final: bool,
