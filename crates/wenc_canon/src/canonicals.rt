@@ -74,14 +74,13 @@ impl DelimitedEq for CanonicalOption {
 /// The section of canonical functions (component model, binary format, "Canonical Definitions").
 ///
 /// ```
+/// let mut component = Component::new(alloc)?;
 /// let mut imports = ComponentImportSection::new(alloc);
 /// imports.import("file".into(), ComponentTypeRef::Type(TypeBounds::SubResource))?;
+/// component.section(&imports)?;
 /// let mut functions = CanonicalFunctionSection::new(alloc);
 /// functions.resource_drop(0)?;
 /// functions.task_return(None, [CanonicalOption::UTF16].into_iter())?;
-///
-/// let mut component = Component::new(alloc)?;
-/// component.section(&imports)?;
 /// component.section(&functions)?;
 /// let bytes = component.finish();
 /// ```

@@ -24,17 +24,16 @@ impl CountedKind for Aliases {
 /// The section of aliases (component model, binary format, "Alias Definitions").
 ///
 /// ```
+/// let mut component = Component::new(alloc)?;
 /// let mut imports = ComponentImportSection::new(alloc);
 /// imports.import("file".into(), ComponentTypeRef::Type(TypeBounds::SubResource))?;
+/// component.section(&imports)?;
 /// let mut aliases = ComponentAliasSection::new(alloc);
 /// aliases.alias(Alias::Outer {
 ///     kind: ComponentOuterAliasKind::Type,
 ///     count: 0,
 ///     index: 0,
 /// })?;
-///
-/// let mut component = Component::new(alloc)?;
-/// component.section(&imports)?;
 /// component.section(&aliases)?;
 /// let bytes = component.finish();
 /// ```

@@ -24,13 +24,12 @@ impl CountedKind for Exports {
 /// The section of exports (component model, binary format, "Import and Export Definitions").
 ///
 /// ```
+/// let mut component = Component::new(alloc)?;
 /// let mut imports = ComponentImportSection::new(alloc);
 /// imports.import("file".into(), ComponentTypeRef::Type(TypeBounds::SubResource))?;
+/// component.section(&imports)?;
 /// let mut exports = ComponentExportSection::new(alloc);
 /// exports.export("handle".into(), ComponentExportKind::Type, 0, None)?;
-///
-/// let mut component = Component::new(alloc)?;
-/// component.section(&imports)?;
 /// component.section(&exports)?;
 /// let bytes = component.finish();
 /// ```

@@ -43,16 +43,14 @@ impl CountedKind for CoreInstances {
 /// The section of core instances (component model, binary format, "Core Instance Definitions").
 ///
 /// ```
-/// let module = Module::new(alloc)?;
+/// let mut component = Component::new(alloc)?;
+/// component.section(&ModuleSection(&Module::new(alloc)?))?;
 /// let mut functions = CanonicalFunctionSection::new(alloc);
 /// functions.task_cancel()?;
+/// component.section(&functions)?;
 /// let mut instances = InstanceSection::new(alloc);
 /// instances.export_items([("cancel", ExportKind::Func, 0)].into_iter())?;
 /// instances.instantiate(0, [("env", ModuleArg::Instance(0))].into_iter())?;
-///
-/// let mut component = Component::new(alloc)?;
-/// component.section(&ModuleSection(&module))?;
-/// component.section(&functions)?;
 /// component.section(&instances)?;
 /// let bytes = component.finish();
 /// ```
@@ -117,18 +115,16 @@ impl CountedKind for Instances {
 /// The section of component instances (component model, binary format, "Instance Definitions").
 ///
 /// ```
+/// let mut component = Component::new(alloc)?;
 /// let mut imports = ComponentImportSection::new(alloc);
 /// imports.import("file".into(), ComponentTypeRef::Type(TypeBounds::SubResource))?;
-/// let nested = Component::new(alloc)?;
+/// component.section(&imports)?;
+/// component.section(&NestedComponentSection(&Component::new(alloc)?))?;
 /// let mut instances = ComponentInstanceSection::new(alloc);
 /// let name: ComponentExternName = "file".into();
 /// instances.export_items([(name, ComponentExportKind::Type, 0)].into_iter())?;
 /// let files = ("files", ComponentExportKind::Instance, 0);
 /// instances.instantiate(0, [files].into_iter())?;
-///
-/// let mut component = Component::new(alloc)?;
-/// component.section(&imports)?;
-/// component.section(&NestedComponentSection(&nested))?;
 /// component.section(&instances)?;
 /// let bytes = component.finish();
 /// ```

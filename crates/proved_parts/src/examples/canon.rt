@@ -10,17 +10,16 @@ use wenc_sections::ComponentImportSection;
 
 /// `CanonicalFunctionSection`.
 pub fn functions<A: Allocator + Copy>(alloc: A) -> Result<Vec<u8, A>, Fault> {
+    let mut component = Component::new(alloc)?;
     let mut imports = ComponentImportSection::new(alloc);
     imports.import(
         "file".into(),
         ComponentTypeRef::Type(TypeBounds::SubResource),
     )?;
+    component.section(&imports)?;
     let mut functions = CanonicalFunctionSection::new(alloc);
     functions.resource_drop(0)?;
     functions.task_return(None, [CanonicalOption::UTF16].into_iter())?;
-
-    let mut component = Component::new(alloc)?;
-    component.section(&imports)?;
     component.section(&functions)?;
     let bytes = component.finish();
     Ok(bytes)

@@ -74,20 +74,19 @@ pub fn aliases<A: Allocator + Copy>(alloc: A) -> Result<Vec<u8, A>, Fault>
         } ∷ [])).text ++ 0x06 ∷ (counted alias_form
         (Outer ComponentOuterAliasKind.«Type» 0 0 ∷ [])).text) }
 {
+    let mut component = Component::new(alloc)?;
     let mut imports = ComponentImportSection::new(alloc);
     imports.import(
         "file".into(),
         ComponentTypeRef::Type(TypeBounds::SubResource),
     )?;
+    component.section(&imports)?;
     let mut aliases = ComponentAliasSection::new(alloc);
     aliases.alias(Alias::Outer {
         kind: ComponentOuterAliasKind::Type,
         count: 0,
         index: 0,
     })?;
-
-    let mut component = Component::new(alloc)?;
-    component.section(&imports)?;
     component.section(&aliases)?;
     let bytes = component.finish();
     Ok(bytes)
@@ -107,16 +106,15 @@ pub fn exports<A: Allocator + Copy>(alloc: A) -> Result<Vec<u8, A>, Fault>
           ty = None;
         } ∷ [])).text) }
 {
+    let mut component = Component::new(alloc)?;
     let mut imports = ComponentImportSection::new(alloc);
     imports.import(
         "file".into(),
         ComponentTypeRef::Type(TypeBounds::SubResource),
     )?;
+    component.section(&imports)?;
     let mut exports = ComponentExportSection::new(alloc);
     exports.export("handle".into(), ComponentExportKind::Type, 0, None)?;
-
-    let mut component = Component::new(alloc)?;
-    component.section(&imports)?;
     component.section(&exports)?;
     let bytes = component.finish();
     Ok(bytes)
@@ -149,16 +147,14 @@ pub fn imports<A: Allocator + Copy>(alloc: A) -> Result<Vec<u8, A>, Fault>
 
 /// `InstanceSection`.
 pub fn core_instances<A: Allocator + Copy>(alloc: A) -> Result<Vec<u8, A>, Fault> {
-    let module = Module::new(alloc)?;
+    let mut component = Component::new(alloc)?;
+    component.section(&ModuleSection(&Module::new(alloc)?))?;
     let mut functions = CanonicalFunctionSection::new(alloc);
     functions.task_cancel()?;
+    component.section(&functions)?;
     let mut instances = InstanceSection::new(alloc);
     instances.export_items([("cancel", ExportKind::Func, 0)].into_iter())?;
     instances.instantiate(0, [("env", ModuleArg::Instance(0))].into_iter())?;
-
-    let mut component = Component::new(alloc)?;
-    component.section(&ModuleSection(&module))?;
-    component.section(&functions)?;
     component.section(&instances)?;
     let bytes = component.finish();
     Ok(bytes)
@@ -166,21 +162,19 @@ pub fn core_instances<A: Allocator + Copy>(alloc: A) -> Result<Vec<u8, A>, Fault
 
 /// `ComponentInstanceSection`.
 pub fn instances<A: Allocator + Copy>(alloc: A) -> Result<Vec<u8, A>, Fault> {
+    let mut component = Component::new(alloc)?;
     let mut imports = ComponentImportSection::new(alloc);
     imports.import(
         "file".into(),
         ComponentTypeRef::Type(TypeBounds::SubResource),
     )?;
-    let nested = Component::new(alloc)?;
+    component.section(&imports)?;
+    component.section(&NestedComponentSection(&Component::new(alloc)?))?;
     let mut instances = ComponentInstanceSection::new(alloc);
     let name: ComponentExternName = "file".into();
     instances.export_items([(name, ComponentExportKind::Type, 0)].into_iter())?;
     let files = ("files", ComponentExportKind::Instance, 0);
     instances.instantiate(0, [files].into_iter())?;
-
-    let mut component = Component::new(alloc)?;
-    component.section(&imports)?;
-    component.section(&NestedComponentSection(&nested))?;
     component.section(&instances)?;
     let bytes = component.finish();
     Ok(bytes)
