@@ -127,30 +127,11 @@ tags a b = grind (arith, common_steps)
 
 pub entities : (a b : EntityType) → Decides (entity_eq'.it a b) (a ≡ b)
 entities (externals.Function m) (externals.Function n) = Decides-like _ (λ e. ap externals.Function e) (λ e. cc) (unsigned_Decides m n)
-entities (externals.Function m) (externals.Table y) = (λ e. absurd cc, λ e. absurd cc)
-entities (externals.Function m) (externals.Memory y) = (λ e. absurd cc, λ e. absurd cc)
-entities (externals.Function m) (externals.Global y) = (λ e. absurd cc, λ e. absurd cc)
-entities (externals.Function m) (externals.Tag y) = (λ e. absurd cc, λ e. absurd cc)
-entities (externals.Table x) (externals.Function n) = (λ e. absurd cc, λ e. absurd cc)
 entities (externals.Table x) (externals.Table y) = Decides-like _ (λ e. ap externals.Table e) (λ e. cc) (tables x y)
-entities (externals.Table x) (externals.Memory y) = (λ e. absurd cc, λ e. absurd cc)
-entities (externals.Table x) (externals.Global y) = (λ e. absurd cc, λ e. absurd cc)
-entities (externals.Table x) (externals.Tag y) = (λ e. absurd cc, λ e. absurd cc)
-entities (externals.Memory x) (externals.Function n) = (λ e. absurd cc, λ e. absurd cc)
-entities (externals.Memory x) (externals.Table y) = (λ e. absurd cc, λ e. absurd cc)
 entities (externals.Memory x) (externals.Memory y) = Decides-like _ (λ e. cc) (λ e. cc) (memories x y)
-entities (externals.Memory x) (externals.Global y) = (λ e. absurd cc, λ e. absurd cc)
-entities (externals.Memory x) (externals.Tag y) = (λ e. absurd cc, λ e. absurd cc)
-entities (externals.Global x) (externals.Function n) = (λ e. absurd cc, λ e. absurd cc)
-entities (externals.Global x) (externals.Table y) = (λ e. absurd cc, λ e. absurd cc)
-entities (externals.Global x) (externals.Memory y) = (λ e. absurd cc, λ e. absurd cc)
 entities (externals.Global x) (externals.Global y) = Decides-like _ (λ e. cc) (λ e. cc) (globals x y)
-entities (externals.Global x) (externals.Tag y) = (λ e. absurd cc, λ e. absurd cc)
-entities (externals.Tag x) (externals.Function n) = (λ e. absurd cc, λ e. absurd cc)
-entities (externals.Tag x) (externals.Table y) = (λ e. absurd cc, λ e. absurd cc)
-entities (externals.Tag x) (externals.Memory y) = (λ e. absurd cc, λ e. absurd cc)
-entities (externals.Tag x) (externals.Global y) = (λ e. absurd cc, λ e. absurd cc)
 entities (externals.Tag x) (externals.Tag y) = Decides-like _ (λ e. cc) (λ e. cc) (tags x y)
+entities one other = (λ e. absurd cc, λ e. absurd cc)
 
 -- ---- lists
 
@@ -183,14 +164,9 @@ structures A al d e s t = Decides-like _ (λ p. cc) (λ e. cc) (same_lists field
 pub composites : (A : RattleType) (al : Ghosts A.Denot) (d e : Dict) (c k : CompositeType A.Denot)
     → Decides ((composite_eq' A al d e).it c k) (composite_view c ≡ composite_view k)
 composites A al d e (kinds.Func x) (kinds.Func y) = functions A al d e x y
-composites A al d e (kinds.Func x) (kinds.Array y) = (λ e. absurd cc, λ e. absurd cc)
-composites A al d e (kinds.Func x) (kinds.Struct y) = (λ e. absurd cc, λ e. absurd cc)
-composites A al d e (kinds.Array x) (kinds.Func y) = (λ e. absurd cc, λ e. absurd cc)
 composites A al d e (kinds.Array x) (kinds.Array y) = Decides-like _ (λ e. cc) (λ e. cc) (fields x.0 y.0)
-composites A al d e (kinds.Array x) (kinds.Struct y) = (λ e. absurd cc, λ e. absurd cc)
-composites A al d e (kinds.Struct x) (kinds.Func y) = (λ e. absurd cc, λ e. absurd cc)
-composites A al d e (kinds.Struct x) (kinds.Array y) = (λ e. absurd cc, λ e. absurd cc)
 composites A al d e (kinds.Struct x) (kinds.Struct y) = structures A al d e x y
+composites A al d e one other = (λ e. absurd cc, λ e. absurd cc)
 
 abbrev sub : Bool → Option ℕ → Composite → Sub
 sub is_final supertype composite = record { is_final = is_final; supertype = supertype; composite = composite }
@@ -209,9 +185,8 @@ subs A al d e s t =
 pub groups : (A : RattleType) (al : Ghosts A.Denot) (d e : Dict) (g h : GroupTree A.Denot)
     → Decides ((group_eq' A al d e).it g h) (rec_type_view g ≡ rec_type_view h)
 groups A al d e (trees.Sub s) (trees.Sub t) = Decides-like _ (λ e. cc) (λ e. cc) (subs A al d e s t)
-groups A al d e (trees.Sub s) (trees.Rec w) = (λ e. absurd cc, λ e. absurd cc)
-groups A al d e (trees.Rec v) (trees.Sub t) = (λ e. absurd cc, λ e. absurd cc)
 groups A al d e (trees.Rec v) (trees.Rec w) = Decides-like _ (λ e. cc) (λ e. cc) (lists (sub_eq' A al d e).it sub_view (subs A al d e) v.items w.items)
+groups A al d e one other = (λ e. absurd cc, λ e. absurd cc)
 
 -- ---- core types of components, by what is seen of them
 
@@ -221,27 +196,15 @@ declarations A al d e (decls.Import from name ty) (decls.Import from' name' ty')
     Decides-like _ (λ p. cc (p.0, p.1.0, p.1.1)) (λ e. (cc, (cc, cc)))
     (Decides-and _ _ (bytes_eq-Decides (string_bytes from) (string_bytes from'))
     (Decides-and _ _ (bytes_eq-Decides (string_bytes name) (string_bytes name')) (entities ty ty')))
-declarations A al d e (decls.Import from name ty) (decls.«Type» h) = (λ e. absurd cc, λ e. absurd cc)
-declarations A al d e (decls.Import from name ty) (decls.Alias m n) = (λ e. absurd cc, λ e. absurd cc)
-declarations A al d e (decls.Import from name ty) (decls.Export name' ty') = (λ e. absurd cc, λ e. absurd cc)
-declarations A al d e (decls.«Type» g) (decls.Import from' name' ty') = (λ e. absurd cc, λ e. absurd cc)
 declarations A al d e (decls.«Type» g) (decls.«Type» h) = Decides-like _ (λ e. cc) (λ e. cc) (groups A al d e g h)
-declarations A al d e (decls.«Type» g) (decls.Alias m n) = (λ e. absurd cc, λ e. absurd cc)
-declarations A al d e (decls.«Type» g) (decls.Export name' ty') = (λ e. absurd cc, λ e. absurd cc)
-declarations A al d e (decls.Alias k l) (decls.Import from' name' ty') = (λ e. absurd cc, λ e. absurd cc)
-declarations A al d e (decls.Alias k l) (decls.«Type» h) = (λ e. absurd cc, λ e. absurd cc)
 declarations A al d e (decls.Alias k l) (decls.Alias m n) = both _ _ (unsigned_Decides k m) (unsigned_Decides l n) (λ p q. cc) (λ e. cc) (λ e. cc)
-declarations A al d e (decls.Alias k l) (decls.Export name' ty') = (λ e. absurd cc, λ e. absurd cc)
-declarations A al d e (decls.Export name ty) (decls.Import from' name' ty') = (λ e. absurd cc, λ e. absurd cc)
-declarations A al d e (decls.Export name ty) (decls.«Type» h) = (λ e. absurd cc, λ e. absurd cc)
-declarations A al d e (decls.Export name ty) (decls.Alias m n) = (λ e. absurd cc, λ e. absurd cc)
 declarations A al d e (decls.Export name ty) (decls.Export name' ty') =
     both _ _ (bytes_eq-Decides (string_bytes name) (string_bytes name')) (entities ty ty') (λ p q. cc) (λ e. cc) (λ e. cc)
+declarations A al d e one other = (λ e. absurd cc, λ e. absurd cc)
 
 pub core_types : (A : RattleType) (al : Ghosts A.Denot) (d e : Dict) (a b : CoreTypeTree A.Denot)
     → Decides ((core_type_eq' A al d e).it a b) (core_type_view a ≡ core_type_view b)
 core_types A al d e (cores.Group g) (cores.Group h) = Decides-like _ (λ e. cc) (λ e. cc) (groups A al d e g h)
-core_types A al d e (cores.Group g) (cores.Module w) = (λ e. absurd cc, λ e. absurd cc)
-core_types A al d e (cores.Module v) (cores.Group h) = (λ e. absurd cc, λ e. absurd cc)
 core_types A al d e (cores.Module v) (cores.Module w) =
     Decides-like _ (λ e. cc) (λ e. cc) (lists (declaration_eq' A al d e).it module_declaration_view (declarations A al d e) v.items w.items)
+core_types A al d e one other = (λ e. absurd cc, λ e. absurd cc)
