@@ -109,18 +109,7 @@ too_large n Unfinished c = absurd c
 
 sort_free : (space : Space) → NoCause (item_sort space).Cause
 sort_free spaces.CoreFuncs fault c = c
-sort_free spaces.CoreTables fault c = c
-sort_free spaces.CoreMemories fault c = c
-sort_free spaces.CoreGlobals fault c = c
-sort_free spaces.CoreTags fault c = c
-sort_free spaces.CoreTypes fault c = c
-sort_free spaces.CoreModules fault c = c
-sort_free spaces.CoreInstances fault c = c
-sort_free spaces.Funcs fault c = c
-sort_free spaces.Values fault c = c
-sort_free spaces.Types fault c = c
-sort_free spaces.Components fault c = c
-sort_free spaces.Instances fault c = c
+sort_free other fault c = c
 
 -- what is against a subsection makes all of them too large
 one_long : (p : Space × HolderState) (fault : Fault) → (space_names p).Cause fault → (fault ≡ TooLarge) × (2 ^ 32 ≤ length (space_names p).text)

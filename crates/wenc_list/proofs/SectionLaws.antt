@@ -116,17 +116,10 @@ apart id k h f e = true≢false (sym h ∙ ap collects e ∙ f)
 pub collecting : (id : ℕ) → id ≤ 11 → id ≢ 0 → id ≢ 1 → id ≢ 4 → id ≢ 9 → collects id ≡ true
 collecting zero le a b c d = absurd (a refl)
 collecting (suc zero) le a b c d = absurd (b refl)
-collecting (suc (suc zero)) le a b c d = refl
-collecting (suc (suc (suc zero))) le a b c d = refl
 collecting (suc (suc (suc (suc zero)))) le a b c d = absurd (c refl)
-collecting (suc (suc (suc (suc (suc zero))))) le a b c d = refl
-collecting (suc (suc (suc (suc (suc (suc zero)))))) le a b c d = refl
-collecting (suc (suc (suc (suc (suc (suc (suc zero))))))) le a b c d = refl
-collecting (suc (suc (suc (suc (suc (suc (suc (suc zero)))))))) le a b c d = refl
 collecting (suc (suc (suc (suc (suc (suc (suc (suc (suc zero))))))))) le a b c d = absurd (d refl)
-collecting (suc (suc (suc (suc (suc (suc (suc (suc (suc (suc zero)))))))))) le a b c d = refl
-collecting (suc (suc (suc (suc (suc (suc (suc (suc (suc (suc (suc zero))))))))))) le a b c d = refl
 collecting (suc (suc (suc (suc (suc (suc (suc (suc (suc (suc (suc (suc n)))))))))))) le a b c d = absurd (omega arith)
+collecting id le a b c d = refl
 
 known_id : (id : ℕ) → collects id ≡ true → id ≤ 11
 known_id id h =

@@ -253,14 +253,9 @@ pub by_kind : {A : Type 0} (eq : CompositeType A → CompositeType A → Bool)
     → eq (composites.Struct s) (composites.Struct t) ≡ true)
     → AlikeIsEqual eq composite_view
 by_kind eq f a s (composites.Func x) (composites.Func y) e = f x y e
-by_kind eq f a s (composites.Func x) (composites.Array y) e = absurd cc
-by_kind eq f a s (composites.Func x) (composites.Struct y) e = absurd cc
-by_kind eq f a s (composites.Array x) (composites.Func y) e = absurd cc
 by_kind eq f a s (composites.Array x) (composites.Array y) e = a x y e
-by_kind eq f a s (composites.Array x) (composites.Struct y) e = absurd cc
-by_kind eq f a s (composites.Struct x) (composites.Func y) e = absurd cc
-by_kind eq f a s (composites.Struct x) (composites.Array y) e = absurd cc
 by_kind eq f a s (composites.Struct x) (composites.Struct y) e = s x y e
+by_kind eq f a s c d e = absurd cc
 
 -- a final type without supertype
 abbrev pub plain : {A : Type 0} → CompositeType A → SubType A

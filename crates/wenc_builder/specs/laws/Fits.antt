@@ -27,18 +27,11 @@ HasRoom o = NoCause (SectionCause o)
 -- the section that an item belongs to collects items
 collects_it : (x : Item) (id : ℕ) → collected x ≡ Some id → IsTrue (collects id)
 collects_it (ModuleItem bytes) id e = absurd cc
-collects_it (CoreInstanceItem i) id e = subst (λ (k : ℕ). IsTrue (collects k)) (same_Some _ id e) refl
-collects_it (CoreTypeItem t) id e = subst (λ (k : ℕ). IsTrue (collects k)) (same_Some _ id e) refl
 collects_it (ComponentItem bytes) id e = absurd cc
-collects_it (InstanceItem i) id e = subst (λ (k : ℕ). IsTrue (collects k)) (same_Some _ id e) refl
-collects_it (AliasItem to) id e = subst (λ (k : ℕ). IsTrue (collects k)) (same_Some _ id e) refl
-collects_it (TypeItem t) id e = subst (λ (k : ℕ). IsTrue (collects k)) (same_Some _ id e) refl
-collects_it (CanonItem f) id e = subst (λ (k : ℕ). IsTrue (collects k)) (same_Some _ id e) refl
 collects_it (StartItem s) id e = absurd cc
-collects_it (ImportItem i) id e = subst (λ (k : ℕ). IsTrue (collects k)) (same_Some _ id e) refl
-collects_it (ExportItem x) id e = subst (λ (k : ℕ). IsTrue (collects k)) (same_Some _ id e) refl
 collects_it (CustomItem c) id e = absurd cc
 collects_it (RawItem bytes) id e = absurd cc
+collects_it x id e = subst (λ (k : ℕ). IsTrue (collects k)) (same_Some _ id e) refl
 
 -- a section of items that can be encoded, which isn't too much
 run_fits : (id : ℕ) (xs : List Item) → IsTrue (collects id)

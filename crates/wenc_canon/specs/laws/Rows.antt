@@ -16,11 +16,7 @@ use Rattle.wenc_canon.specs.inside.Rows.{values_then, row_then, builtin_with}
 
 same_value : (f : Field) (v : Value f) → as_value f f v ≡ v
 same_value Index n = refl
-same_value Options os = refl
-same_value Flag b = refl
-same_value Zero v = refl
-same_value CoreType t = refl
-same_value Results r = refl
+same_value other v = refl
 
 pub same_values : (fs : List Field) (vs : Values fs) → as_values fs fs vs ≡ vs
 same_values [] vs = refl

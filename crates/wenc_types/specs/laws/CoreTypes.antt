@@ -189,16 +189,11 @@ pub composite_sees : {A : Type 0} (eq : CompositeType A → CompositeType A → 
     (composites.Struct t))
     → SeesAlike eq composite_view
 composite_sees eq f s (composites.Func x) (composites.Func y) e = f x y (same_params x y e) (same_results x y e)
-composite_sees eq f s (composites.Func x) (composites.Array y) e = absurd cc
-composite_sees eq f s (composites.Func x) (composites.Struct y) e = absurd cc
-composite_sees eq f s (composites.Array x) (composites.Func y) e = absurd cc
 composite_sees eq f s (composites.Array x) (composites.Array y) e =
     subst (λ (t : FieldType). eq (composites.Array x) (composites.Array x)
     ≡ eq (composites.Array x) (composites.Array (record { 0 = t }))) (same_element x y e) refl
-composite_sees eq f s (composites.Array x) (composites.Struct y) e = absurd cc
-composite_sees eq f s (composites.Struct x) (composites.Func y) e = absurd cc
-composite_sees eq f s (composites.Struct x) (composites.Array y) e = absurd cc
 composite_sees eq f s (composites.Struct x) (composites.Struct y) e = s x y (same_fields x y e)
+composite_sees eq f s c d e = absurd cc
 
 abbrev sub_with : {A : Type 0} → Bool → Option ℕ → CompositeType A → SubType A
 sub_with is_final supertype c = record { is_final = is_final; supertype_idx = supertype; composite_type = c }
@@ -242,27 +237,16 @@ declaration_sees eq i g x (decls.Import m n t) (decls.Import k l u) e =
     let types : t ≡ u = cc in
     subst (λ (v : EntityType). eq (decls.Import m n t) (decls.Import m n t)
     ≡ eq (decls.Import m n t) (decls.Import k l v)) types (i m n k l t (cc) (cc))
-declaration_sees eq i g x (decls.Import m n t) (decls.«Type» h) e = absurd cc
-declaration_sees eq i g x (decls.Import m n t) (decls.Alias c k) e = absurd cc
-declaration_sees eq i g x (decls.Import m n t) (decls.Export l u) e = absurd cc
-declaration_sees eq i g x (decls.«Type» y) (decls.Import k l u) e = absurd cc
 declaration_sees eq i g x (decls.«Type» y) (decls.«Type» z) e = g y z cc
-declaration_sees eq i g x (decls.«Type» y) (decls.Alias c k) e = absurd cc
-declaration_sees eq i g x (decls.«Type» y) (decls.Export l u) e = absurd cc
-declaration_sees eq i g x (decls.Alias c n) (decls.Import k l u) e = absurd cc
-declaration_sees eq i g x (decls.Alias c n) (decls.«Type» z) e = absurd cc
 declaration_sees eq i g x (decls.Alias c n) (decls.Alias d k) e =
     let counts : c ≡ d = cc in
     let numbers : n ≡ k = cc in
     rw (counts, numbers) refl
-declaration_sees eq i g x (decls.Alias c n) (decls.Export l u) e = absurd cc
-declaration_sees eq i g x (decls.Export n t) (decls.Import k l u) e = absurd cc
-declaration_sees eq i g x (decls.Export n t) (decls.«Type» z) e = absurd cc
-declaration_sees eq i g x (decls.Export n t) (decls.Alias c k) e = absurd cc
 declaration_sees eq i g x (decls.Export n t) (decls.Export l u) e =
     let types : t ≡ u = cc in
     subst (λ (v : EntityType). eq (decls.Export n t) (decls.Export n t)
     ≡ eq (decls.Export n t) (decls.Export l v)) types (x n l t cc)
+declaration_sees eq i g x c d e = absurd cc
 
 -- core types, by their declarations
 pub core_type_sees : {A : Type 0} (eq : CoreTypeTree A → CoreTypeTree A → Bool)

@@ -73,21 +73,12 @@ ShapeOf (Future ty) t = t ≡ trees.Future ty
 ShapeOf (Stream ty) t = t ≡ trees.Stream ty
 
 shape_of : {A : Type 0} (t : DefinedTree A) → ShapeOf (defined_view t) t
-shape_of (trees.Primitive p) = refl
 shape_of (trees.Record v) = (v, refl, refl)
 shape_of (trees.Variant v) = (v, refl, refl)
-shape_of (trees.List element) = refl
-shape_of (trees.Map key value) = refl
-shape_of (trees.FixedLengthList element n) = refl
 shape_of (trees.Tuple v) = (v, refl, refl)
 shape_of (trees.Flags v) = (v, refl, refl)
 shape_of (trees.Enum v) = (v, refl, refl)
-shape_of (trees.Option ty) = refl
-shape_of (trees.Result ok error) = refl
-shape_of (trees.Own number) = refl
-shape_of (trees.Borrow number) = refl
-shape_of (trees.Future ty) = refl
-shape_of (trees.Stream ty) = refl
+shape_of other = refl
 
 -- Trees, by what their lists have: fields, cases, elements and names.
 pub defined_sees : {A : Type 0} (eq : DefinedTree A → DefinedTree A → Bool)
@@ -102,21 +93,12 @@ defined_sees {A} eq records variants tuples flags enums a b e =
     of a (subst (λ (d : DefValType). ShapeOf d b) (sym e) (shape_of b))
   where
     of : (a : DefinedTree A) → ShapeOf (defined_view a) b → eq a a ≡ eq a b
-    of (trees.Primitive p) h = rw h refl
     of (trees.Record v) h = rw h.2 (records v h.0 h.1)
     of (trees.Variant v) h = rw h.2 (variants v h.0 h.1)
-    of (trees.List element) h = rw h refl
-    of (trees.Map key value) h = rw h refl
-    of (trees.FixedLengthList element n) h = rw h refl
     of (trees.Tuple v) h = rw h.2 (tuples v h.0 h.1)
     of (trees.Flags v) h = rw h.2 (flags v h.0 h.1)
     of (trees.Enum v) h = rw h.2 (enums v h.0 h.1)
-    of (trees.Option ty) h = rw h refl
-    of (trees.Result ok error) h = rw h refl
-    of (trees.Own number) h = rw h refl
-    of (trees.Borrow number) h = rw h refl
-    of (trees.Future ty) h = rw h refl
-    of (trees.Stream ty) h = rw h refl
+    of other h = rw h refl
 
 -- ---- what the code's trees are seen as, level by level
 
