@@ -72,11 +72,11 @@ pub fn without_ghosts(source: &str) -> Result<String, Refused> {
 
 /// Puts a condition before each item of an erased file that exists only with a feature: the modules
 /// in [`known::PARTIAL`], what names a type in [`known::OWNED`] in its head, and imports of these,
-/// which are parted from the others. What follows an attribute is `end`, a blank or a line end.
-pub fn with_conditions(rust: &str, end: char) -> Result<String, Refused> {
+/// which are parted from the others.
+pub fn with_conditions(rust: &str) -> Result<String, Refused> {
     let tokens = tokens(rust)?;
     let mut eraser = Eraser::new("", &[], &tokens);
-    eraser.conditions(end)?;
+    eraser.conditions()?;
     Ok(eraser.finish())
 }
 

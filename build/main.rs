@@ -9,7 +9,6 @@
 //!   clauses and ghost items, which `gate/erased` compares with what the prover takes for code.
 
 mod erase;
-mod tidy;
 
 use std::fs;
 use std::path::{Path, PathBuf};
@@ -46,9 +45,7 @@ fn main() {
     match words.iter().map(String::as_str).collect::<Vec<_>>()[..] {
         [] => build(),
         ["--code", folder] => write_code(sources, Path::new(folder)),
-        [folder] => erase_all(sources, Path::new(folder), '\n', |name, known, text| {
-            erase::erase(name, known, text).map(|erased| tidy::tidy(text, &erased))
-        }),
+        [folder] => erase_all(sources, Path::new(folder)),
         _ => panic!("usage: erase [--code] FOLDER"),
     }
 }
@@ -68,8 +65,7 @@ fn build() {
     } else if top.join("tests/proved").is_dir() {
         println!("cargo::rustc-cfg=has_tests");
     }
-    let out = PathBuf::from(variable("OUT_DIR")).join("proved");
-    erase_all(&top.join("crates"), &out, ' ', erase::erase);
+    erase_all(&top.join("crates"), &PathBuf::from(variable("OUT_DIR")).join("proved"));
 }
 
 /// Returns the crates, each group with the condition under which it is compiled.
@@ -83,75 +79,55 @@ fn parts() -> [(&'static [&'static str], &'static str); 5] {
     ]
 }
 
-/// Makes another text of a source, given the name of its crate, and all crates.
-type Make = fn(&str, &[&str], &str) -> Result<String, erase::Refused>;
-
-/// What becomes of the files of a crate.
-struct Making<'a> {
-    /// The name of the crate, and all crates.
-    names: (&'a str, &'a [&'a str]),
-    extension: &'static str,
-    make: Make,
-    /// What follows a condition, if items have some that their crate doesn't have.
-    end: Option<char>,
-}
-
-impl Making<'_> {
-    /// Makes a file of each file of a folder and its subfolders.
-    fn folder(&self, from: &Path, to: &Path) {
-        let made = fs::create_dir_all(to);
-        made.unwrap_or_else(|error| panic!("{}: {error}", to.display()));
-        let entries = fs::read_dir(from);
-        for entry in entries.unwrap_or_else(|error| panic!("{}: {error}", from.display())) {
-            let path = entry.expect("the folder can be read").path();
-            let target = to.join(path.file_name().expect("it has a name"));
-            if path.is_dir() {
-                self.folder(&path, &target);
-            } else if path.extension().is_some_and(|extension| extension == "rt") {
-                let text = fs::read_to_string(&path);
-                let text = text.unwrap_or_else(|error| panic!("{}: {error}", path.display()));
-                match self.made(&path, &text) {
-                    Ok(made) => write(&target.with_extension(self.extension), &made),
-                    Err((line, why)) => panic!("{}:{line}: {why}", path.display()),
-                }
+/// Makes a file of each source in a folder and its subfolders, given the names of their modules.
+fn make(from: &Path, to: &Path, extension: &str, made: &Made<'_>) {
+    fs::create_dir_all(to).unwrap_or_else(|error| panic!("{}: {error}", to.display()));
+    let entries = fs::read_dir(from);
+    for entry in entries.unwrap_or_else(|error| panic!("{}: {error}", from.display())) {
+        let path = entry.expect("the folder can be read").path();
+        let target = to.join(path.file_name().expect("it has a name"));
+        if path.is_dir() {
+            make(&path, &target, extension, made);
+        } else if path.extension().is_some_and(|extension| extension == "rt") {
+            let text = fs::read_to_string(&path);
+            let text = text.unwrap_or_else(|error| panic!("{}: {error}", path.display()));
+            let module = path.file_stem().and_then(|stem| stem.to_str()).unwrap_or("");
+            match made(module, &text) {
+                Ok(made) => write(&target.with_extension(extension), &made),
+                Err((line, why)) => panic!("{}:{line}: {why}", path.display()),
             }
         }
     }
-
-    /// Returns what a file with this name becomes.
-    fn made(&self, file: &Path, text: &str) -> Result<String, erase::Refused> {
-        let (name, known) = self.names;
-        let made = (self.make)(name, known, text)?;
-        let module = file.file_stem().and_then(|stem| stem.to_str()).unwrap_or("");
-        match self.end.filter(|_| !erase::is_owned(module)) {
-            Some(end) => erase::with_conditions(&made, end),
-            None => Ok(made),
-        }
-    }
 }
+
+/// Returns what a module with this name and text becomes.
+type Made<'a> = dyn Fn(&str, &str) -> Result<String, erase::Refused> + 'a;
 
 /// Writes the code of all crates of a folder into another folder.
 fn write_code(sources: &Path, out: &Path) {
     for name in parts().iter().flat_map(|(names, _)| *names) {
-        let make: Make = |_, _, text| erase::without_ghosts(text);
-        let making = Making { names: (name, &[]), extension: "rt", make, end: None };
-        making.folder(&sources.join(name).join("src"), &out.join(name).join("src"));
+        let (from, to) = (sources.join(name).join("src"), out.join(name).join("src"));
+        make(&from, &to, "rt", &|_, text| erase::without_ghosts(text));
     }
 }
 
-/// Erases all crates of a folder into another folder. `end` is what follows a condition.
-fn erase_all(sources: &Path, out: &Path, end: char, make: Make) {
+/// Erases all crates of a folder into another folder.
+fn erase_all(sources: &Path, out: &Path) {
     let parts = parts();
     let known: Vec<&str> =
         parts.iter().flat_map(|(names, _)| *names).chain(&BY_HAND).copied().collect();
     let _ = fs::remove_dir_all(out);
     let mut declared = String::new();
     for (names, condition) in parts {
+        // The items of other crates need no condition beside that of the crate.
+        let is_parted = ["", erase::WALK].contains(&condition);
         for name in names {
             let source = sources.join(name).join("src");
-            let end = Some(end).filter(|_| ["", erase::WALK].contains(&condition));
-            Making { names: (name, &known), extension: "rs", make, end }
-                .folder(&source, &out.join(name));
+            make(&source, &out.join(name), "rs", &|module, text| {
+                let rust = erase::erase(name, &known, text)?;
+                let is_parted = is_parted && !erase::is_owned(module);
+                if is_parted { erase::with_conditions(&rust) } else { Ok(rust) }
+            });
             let root = if source.join("lib.rt").exists() { "lib.rs" } else { "main.rs" };
             let path = format!("#[path = \"{name}/{root}\"]\n");
             if !condition.is_empty() {

@@ -1,11 +1,9 @@
-//! The eraser: what it rejects, with the line; what becomes of comments; conditions of items that
-//! exist only with a feature; and the layout of the package.
+//! The eraser: what it rejects, with the line; what becomes of comments; and conditions of items
+//! that exist only with a feature.
 
 #[allow(dead_code, reason = "the crate's tables are for the build script")]
 #[path = "../build/erase.rs"]
 mod erase;
-#[path = "../build/tidy.rs"]
-mod tidy;
 
 const CRATES: [&str; 3] = ["wenc_base", "wenc_parts", "hex"];
 const PRELUDE: &str = "use crate::shim::prelude::*; ";
@@ -275,10 +273,7 @@ fn code_is_all_but_ghosts() {
 fn is_conditional(rust: &str, wanted: &str) {
     let attribute = |feature| format!("#[cfg(any(feature = \"{feature}\", script, test))] ");
     let wanted = wanted.replace("T ", &attribute("tree")).replace("W ", &attribute("walk"));
-    assert_eq!(erase::with_conditions(rust, ' '), Ok(wanted.clone()));
-    // each on a line of its own, as the package has it
-    let laid_out = erase::with_conditions(rust, '\n').map(|rust| rust.replace('\n', " "));
-    assert_eq!(laid_out, Ok(wanted.replace('\n', " ")));
+    assert_eq!(erase::with_conditions(rust), Ok(wanted));
 }
 
 #[test]
@@ -353,141 +348,6 @@ fn imports_are_parted_by_their_conditions() {
         is_conditional(rust, wanted);
     }
     let why = "an item without an end";
-    assert_eq!(erase::with_conditions("a;\nuse b", ' '), Err((2, why)));
-    assert_eq!(erase::with_conditions("fn f()", ' '), Err((1, why)));
-}
-
-/// Rattle with all that is left out, as the published package has it.
-const PAGE: &str = "\
-//! A crate.
-//!
-//! ```
-//! f(3)?;
-//! ```
-ghost use specs.A.{a, b};
-
-use thiserror::Error;
-mod inner;
-
-/// It is *whole*.
-///
-/// ```
-/// f(3)?;
-/// ```
-#[tactic(auto)]
-#[derive(Drop)]
-pub struct Pair<T: Drop>
-where
-    T: Encode,
-{
-    first: T,
-    ghost whole: { length a ≡ 1 },
-}
-
-#[derive(Debug, Error)]
-pub enum Fault {
-    #[error(\"at {place}\")]
-    At { place: usize },
-    #[error(\"no memory\")]
-    Memory,
-}
-
-pub fn f(x: u8) -> Result<u8, Fault>
-    requires { x < 3 }
-    ensures { IfOk result (λ y. { y ≡ x }) }
-{
-    let y = x;
-
-    {
-        g(y);
-    }
-    Ok(y)
-}
-
-impl Encode for Pair {
-    ghost piece = { 1 };
-
-    fn encode<A: Allocator>(
-        &self,
-    ) -> u8
-        ensures { nothing }
-    {
-        1
-    }
-
-    ghost last = { 2 };
-}
-
-impl Model for Pair {
-    ghost Value = { List };
-}
-
-trait Longer {
-    fn len(&self) -> u8
-        ensures { IsSize result };
-}
-";
-
-const TIDY: &str = "\
-//! A crate.
-
-use crate::shim::prelude::*;
-
-mod inner;
-
-/// It is *whole*.
-pub struct Pair<T>
-where
-    T: Encode,
-{
-    first: T,
-}
-
-#[derive(Debug, Hash)]
-pub enum Fault {
-    At { place: usize },
-    Memory,
-}
-
-impl ::core::fmt::Display for Fault {
-    #[inline]
-    fn fmt(&self, f: &mut ::core::fmt::Formatter<'_>) -> ::core::fmt::Result {
-        match self {
-            Fault::At { place, .. } => write!(f, \"at {place}\"),
-            Fault::Memory { .. } => write!(f, \"no memory\"),
-        }
-    }
-}
-
-impl ::core::error::Error for Fault {}
-
-pub fn f(x: u8) -> Result<u8, Fault> {
-    let y = x;
-
-    {
-        g(y);
-    }
-    Ok(y)
-}
-
-impl Encode for Pair {
-    #[inline]
-    fn encode(
-        &self,
-    ) -> u8 {
-        1
-    }
-}
-
-impl Model for Pair {}
-
-trait Longer {
-    fn len(&self) -> u8;
-}
-";
-
-#[test]
-fn the_package_has_no_line_of_what_is_left_out() {
-    let erased = erase::erase("wenc_parts", &CRATES, PAGE).unwrap_or_else(|why| panic!("{why:?}"));
-    assert_eq!(tidy::tidy(PAGE, &erased), TIDY);
+    assert_eq!(erase::with_conditions("a;\nuse b"), Err((2, why)));
+    assert_eq!(erase::with_conditions("fn f()"), Err((1, why)));
 }

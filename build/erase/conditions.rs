@@ -17,25 +17,24 @@ pub fn is_owned(module: &str) -> bool {
 }
 
 impl Eraser<'_> {
-    /// Puts a condition before each item of a Rust file that needs one. `end` is what follows the
-    /// attribute.
-    pub(super) fn conditions(&mut self, end: char) -> Result<(), Refused> {
+    /// Puts a condition before each item of a Rust file that needs one.
+    pub(super) fn conditions(&mut self) -> Result<(), Refused> {
         let mut i = 0;
         while i < self.code.len() {
             let keyword = self.behind_visibility(i)?;
             i = match self.at(keyword) {
-                "#" if self.stands(i + 1, "[ derive") => self.conditional_derive(i, end)?,
+                "#" if self.stands(i + 1, "[ derive") => self.conditional_derive(i)?,
                 _ if !self.is_item(i) => i + 1,
-                "use" => self.conditional_use(i, keyword, end)?,
+                "use" => self.conditional_use(i, keyword)?,
                 "mod" => {
                     let of = PARTIAL.iter().find(|(name, _)| *name == self.at(keyword + 1));
-                    self.condition(i, of.map(|(_, condition)| *condition), end);
+                    self.condition(i, of.map(|(_, condition)| *condition));
                     keyword + 1
                 }
                 "enum" | "fn" | "impl" | "struct" | "type" => {
                     let body = self.first_of(keyword, &["{", ";"])?;
                     let condition = self.condition_of(keyword..body);
-                    self.condition(i, condition, end);
+                    self.condition(i, condition);
                     if condition.is_some() { self.close(body)? } else { keyword + 1 }
                 }
                 _ => i + 1,
@@ -83,24 +82,16 @@ impl Eraser<'_> {
     }
 
     /// Puts a condition, if there is one, before the item that begins here.
-    fn condition(&mut self, i: usize, condition: Option<&'static str>, end: char) {
+    fn condition(&mut self, i: usize, condition: Option<&'static str>) {
         if let Some(condition) = condition {
-            let blanks = self.indentation(i, end);
             let item = &self.becomes[self.code[i]];
-            self.becomes[self.code[i]] = format!("#[cfg({condition})]{end}{blanks}{item}").into();
+            self.becomes[self.code[i]] = format!("#[cfg({condition})] {item}").into();
         }
-    }
-
-    /// Returns the blanks before an item, if an attribute of it ends with its line.
-    fn indentation(&self, i: usize, end: char) -> String {
-        let before = self.code[i].checked_sub(1).map_or("", |t| self.tokens[t].text);
-        let blanks = before.rsplit_once('\n').map_or("", |(_, blanks)| blanks);
-        if end == '\n' { blanks.to_owned() } else { String::new() }
     }
 
     /// Puts its condition before a `use`, and parts it where not all of its names have the same.
     /// Returns the position after it.
-    fn conditional_use(&mut self, i: usize, keyword: usize, end: char) -> Result<usize, Refused> {
+    fn conditional_use(&mut self, i: usize, keyword: usize) -> Result<usize, Refused> {
         let behind = self.first_of(i, &[";"])?;
         let open = self.first_of(i, &["{", ";"])?;
         let of_path = |j: usize| PARTIAL.iter().find(|(name, _)| *name == self.at(j));
@@ -112,20 +103,19 @@ impl Eraser<'_> {
         let is_owned = |j: &usize| OWNED.contains(&self.at(*j));
         let owned: Vec<usize> = listed.iter().copied().filter(is_owned).collect();
         if owned.is_empty() || whole == Some(TREE) {
-            self.condition(i, whole, end);
+            self.condition(i, whole);
         } else if owned.len() == listed.len() {
-            self.condition(i, Some(TREE), end);
+            self.condition(i, Some(TREE));
         } else {
-            self.condition(i, whole, end);
+            self.condition(i, whole);
             let path: String = (i..open).map(|j| self.spaced(j)).collect();
             let parted: Vec<&str> = owned.iter().map(|j| self.at(*j)).collect();
             let parted = match parted[..] {
                 [name] => name.to_owned(),
                 _ => format!("{{{}}}", parted.join(", ")),
             };
-            let blanks = self.indentation(i, end);
             let rest = &self.becomes[self.code[i]];
-            let both = format!("#[cfg({TREE})]{end}{blanks}{path}{parted};{end}{blanks}{rest}");
+            let both = format!("#[cfg({TREE})] {path}{parted}; {rest}");
             self.becomes[self.code[i]] = both.into();
             owned.into_iter().for_each(|j| self.leave_out_of_list(j));
         }
@@ -134,7 +124,7 @@ impl Eraser<'_> {
 
     /// Parts the derives of a type that users see by a feature only: without it, what isn't `Copy`
     /// needs none. Returns the position after them.
-    fn conditional_derive(&mut self, i: usize, end: char) -> Result<usize, Refused> {
+    fn conditional_derive(&mut self, i: usize) -> Result<usize, Refused> {
         let behind = self.close(i + 1)?;
         let owner = self.public_type(behind)?;
         let Some((_, condition)) = INNER.iter().find(|(name, _)| *name == owner) else {
@@ -144,10 +134,9 @@ impl Eraser<'_> {
         let is_copy = names.contains(&"Copy");
         let is_kept = |name: &&str| is_copy && ["Clone", "Copy"].contains(name);
         let (kept, others): (Vec<&str>, Vec<&str>) = names.into_iter().partition(is_kept);
-        let blanks = self.indentation(i, end);
         let kept = match kept[..] {
             [] => String::new(),
-            _ => format!("#[derive({})]{end}{blanks}", kept.join(", ")),
+            _ => format!("#[derive({})] ", kept.join(", ")),
         };
         let others = others.join(", ");
         for t in self.code[i]..self.code[behind - 1] + 1 {
