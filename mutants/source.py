@@ -83,9 +83,10 @@ class Source:
 class Mutant:
     """A part of a file and the text in its place."""
 
-    def __init__(self, path, function, what, place, new, is_planted=False):
+    is_planted = False
+
+    def __init__(self, path, function, what, place, new):
         self.path, self.function, self.what, self.place, self.new = path, function, what, place, new
-        self.is_planted = is_planted
 
     def name(self):
         return f"{self.path} {self.function}: {self.what}".replace(" :", ":")
