@@ -134,11 +134,11 @@ impl<'a> Eraser<'a> {
         self.becomes[self.code[i]] = text.into();
     }
 
-    /// Leaves these tokens out.
+    /// Leaves these tokens out, with the blank before them.
     fn leave_out(&mut self, range: std::ops::Range<usize>) {
-        for i in range {
-            self.put(i, "");
-        }
+        let (first, last) = (self.code[range.start], self.code[range.end - 1]);
+        let is_led = first > 0 && self.tokens[first - 1].kind == Kind::Space;
+        self.becomes[first - usize::from(is_led)..=last].fill("".into());
     }
 
     /// Returns the position after the bracket that closes the one at `i`.

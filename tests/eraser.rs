@@ -337,11 +337,11 @@ fn imports_are_parted_by_their_conditions() {
         ("pub use a::{TypeTree, ItemTree};", "T pub use a::{TypeTree, ItemTree};"),
         ("pub use trees::{A, B};", "T pub use trees::{A, B};"),
         ("use crate::canon_tree::A;", "W use crate::canon_tree::A;"),
-        ("use a::{TypeTree, B, C};", "T use a::TypeTree; use a::{B, C};"),
+        ("use a::{TypeTree, B, C};", "T use a::TypeTree; use a::{ B, C};"),
         ("use a::{B, TypeTree};", "T use a::TypeTree; use a::{B};"),
         (
             "pub(in a) use b::{AliasTree, C, NameTree,};",
-            "T pub(in a) use b::{AliasTree, NameTree}; pub(in a) use b::{C, };",
+            "T pub(in a) use b::{AliasTree, NameTree}; pub(in a) use b::{ C,};",
         ),
         ("use canon_tree::{A, CanonTree};", "T use canon_tree::CanonTree; W use canon_tree::{A};"),
     ] {

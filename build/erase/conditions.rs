@@ -152,21 +152,10 @@ impl Eraser<'_> {
         format!("{}{}", self.at(j), if is_last { " " } else { "" })
     }
 
-    /// Leaves a name out of a list, with its comma and the blank after that.
+    /// Leaves one of several names out of a list, with the comma after it or, if it is the last one,
+    /// before it.
     fn leave_out_of_list(&mut self, j: usize) {
-        self.leave_out(j..j + 1);
-        if self.at(j + 1) == "," {
-            self.leave_out(j + 1..j + 2);
-            let after = self.code[j + 1] + 1;
-            if self.tokens.get(after).is_some_and(|token| token.text == " ") {
-                self.becomes[after] = "".into();
-            }
-        } else if self.at(j - 1) == "," {
-            self.leave_out(j - 1..j);
-            let before = self.code[j] - 1;
-            if self.tokens[before].text == " " {
-                self.becomes[before] = "".into();
-            }
-        }
+        let begin = if self.at(j + 1) == "," { j } else { j - 1 };
+        self.leave_out(begin..begin + 2);
     }
 }
