@@ -2,6 +2,7 @@
 
 import re
 import zlib
+from bisect import bisect
 
 from source import Mutant
 
@@ -19,10 +20,10 @@ class Maker:
 
     def __init__(self, path, source, rows):
         self.path, self.source, self.rows, self.made = path, source, rows, []
+        places = [place for _, place in source.tokens]
         for body in source.bodies:
             self.body = body
-            inside = [at for at, (_, offset) in enumerate(source.tokens)
-                      if body.start < offset < body.end - 1]
+            inside = range(bisect(places, body.start), bisect(places, body.end - 2))
             variants = self.variants(inside)
             for at in inside:
                 self.token(at, variants)
@@ -64,7 +65,7 @@ class Maker:
         if text in ("if", "while") and word(at + 1) != "let":
             end = at + 1
             while word(end) not in ("{", "=>", ""):
-                end = self.source.partner.get(end, end) + 1
+                end = max(self.source.partner.get(end, end), end) + 1
             if all(word(n) != "let" for n in range(at, end)):
                 self.put("negated", at + 1, end - 1,
                          f"!({self.source.text[self.start(at + 1):self.end(end - 1)]})")
