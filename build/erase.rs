@@ -264,12 +264,8 @@ impl<'a> Eraser<'a> {
     fn is_inlined(&self, i: usize) -> bool {
         let is_left = |j: &usize| !self.becomes[self.code[*j]].is_empty();
         let last = (0..i).rev().find(is_left).map_or("", |j| self.at(j));
-        let name = match (self.at(i), self.at(i + 1)) {
-            ("fn", name) => name,
-            ("pub", "fn") => self.at(i + 2),
-            ("pub", "(") if self.at(i + 4) == "fn" => self.at(i + 5),
-            _ => "",
-        };
+        let keyword = self.behind_visibility(i).unwrap_or(i);
+        let name = if self.at(keyword) == "fn" { self.at(keyword + 1) } else { "" };
         let block = (0..i).rev().find(|j| ["impl", "trait"].contains(&self.at(*j)));
         // The encodings of trees aren't on the way of a call.
         let is_kept = |j| {

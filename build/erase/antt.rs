@@ -3,6 +3,8 @@
 //! The text is antt, the language of definitions and proofs. Its braces are counted. What could
 //! hide one of them, or a semicolon, from the prover but not from this count is refused.
 
+use super::lexer::{is_word, quoted_len};
+
 /// What the text of a clause or a ghost item must not have.
 const REFUSED: [(&str, &str); 5] = [
     ("{-", "a block comment in a clause"),
@@ -26,8 +28,8 @@ pub fn block_len(rest: &str) -> Result<usize, &'static str> {
             '}' if depth == 1 => return Ok(at),
             '}' => depth -= 1,
             '"' => at += text_len(&rest[at..])?,
-            '«' => at += quoted_len(&rest[at..], is_name, '»')?,
-            '⟦' => at += quoted_len(&rest[at..], is_type, '⟧')?,
+            '«' => at += name_len(&rest[at..], is_word, '»')?,
+            '⟦' => at += name_len(&rest[at..], is_type, '⟧')?,
             _ => {}
         }
     }
@@ -65,21 +67,17 @@ fn check(text: &str, at: usize) -> Result<(), &'static str> {
 
 /// Returns the number of bytes of a text after its first quote. It ends in its line.
 fn text_len(rest: &str) -> Result<usize, &'static str> {
-    let len = super::lexer::quoted_len(rest, '"').ok_or("a text without an end")?;
+    let len = quoted_len(rest, '"').ok_or("a text without an end")?;
     if rest[..len].contains('\n') { Err("a text of several lines in a clause") } else { Ok(len) }
 }
 
 /// Returns the number of bytes of an escaped name or of a type in brackets, after the first sign.
-fn quoted_len(rest: &str, is_in: fn(char) -> bool, end: char) -> Result<usize, &'static str> {
+fn name_len(rest: &str, is_in: fn(char) -> bool, end: char) -> Result<usize, &'static str> {
     let len = rest.find(|c| !is_in(c)).unwrap_or(rest.len());
     let is_closed = rest[len..].starts_with(end);
     if is_closed { Ok(len + end.len_utf8()) } else { Err("a sign in an escaped name or a type") }
 }
 
-fn is_name(c: char) -> bool {
-    c == '_' || c.is_ascii_alphanumeric()
-}
-
 fn is_type(c: char) -> bool {
-    is_name(c) || " <>,:&".contains(c)
+    is_word(c) || " <>,:&".contains(c)
 }

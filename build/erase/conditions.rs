@@ -55,7 +55,7 @@ impl Eraser<'_> {
     }
 
     /// Returns the position after `pub`, and after what that is limited to, if they are here.
-    fn behind_visibility(&self, i: usize) -> Result<usize, Refused> {
+    pub(super) fn behind_visibility(&self, i: usize) -> Result<usize, Refused> {
         match (self.at(i), self.at(i + 1)) {
             ("pub", "(") => self.close(i + 1),
             ("pub", _) => Ok(i + 1),
@@ -96,10 +96,8 @@ impl Eraser<'_> {
         let open = self.first_of(i, &["{", ";"])?;
         let of_path = |j: usize| PARTIAL.iter().find(|(name, _)| *name == self.at(j));
         let whole = (keyword..open).find_map(of_path).map(|(_, condition)| *condition);
-        let names = || (keyword..behind).filter(|j| self.is_word(*j));
-        let (first, last) =
-            if open < behind { (open + 1, behind - 1) } else { (behind - 1, behind) };
-        let listed: Vec<usize> = names().filter(|j| (first..last).contains(j)).collect();
+        let first = if open < behind { open + 1 } else { behind - 1 };
+        let listed: Vec<usize> = (first..behind).filter(|j| self.is_word(*j)).collect();
         let is_owned = |j: &usize| OWNED.contains(&self.at(*j));
         let owned: Vec<usize> = listed.iter().copied().filter(is_owned).collect();
         if owned.is_empty() || whole == Some(TREE) {

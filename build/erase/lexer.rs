@@ -86,7 +86,8 @@ fn is_blank(c: char) -> bool {
     c == ' ' || c == '\n'
 }
 
-fn is_word(c: char) -> bool {
+/// Returns whether names have this character.
+pub fn is_word(c: char) -> bool {
     c == '_' || c.is_ascii_alphanumeric()
 }
 
