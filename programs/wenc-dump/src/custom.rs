@@ -2,7 +2,7 @@
 
 use super::cause::Cause;
 use super::fault::{Fault, Kind};
-use super::report::{Contents, Entry, Part, Report};
+use super::report::{Contents, Entry, Part};
 use super::walk::Walk;
 use std::io;
 use std::ops::Range;
@@ -26,7 +26,7 @@ impl Contents {
     }
 }
 
-impl<R: Report> Walk<'_, '_, R> {
+impl Walk<'_, '_> {
     fn entry(&mut self, entry: Entry) -> io::Result<()> {
         self.report.open(&Part::Entry(entry))?;
         self.report.close()

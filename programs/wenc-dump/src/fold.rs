@@ -66,7 +66,7 @@ fn name_of<'a>(node: &Node, names: Names<'a>) -> Option<&'a str> {
     names.iter().rev().nth(usize::try_from(out).ok()?)?.get(space, index)
 }
 
-impl<W: Write> Text<'_, W> {
+impl Text<'_> {
     /// Writes a node on a line of this depth, with `after` columns to spare. It was read from so
     /// many bytes, if that is known.
     pub(super) fn node(

@@ -17,8 +17,8 @@ use wenc::tree::{Child, Node, Scope, UsedIndex};
 const PARTS: usize = 1 + 2 * (DEPTH + 1) + 2;
 
 /// JSON, as the manual page of `wenc-dump` describes it.
-pub struct Json<'o, W> {
-    out: &'o mut W,
+pub struct Json<'o> {
+    out: &'o mut dyn Write,
     has_bytes: bool,
     /// The open parts.
     open: Vec<Open>,
@@ -73,9 +73,9 @@ impl fmt::Write for Letters<'_, '_> {
     }
 }
 
-impl<'o, W: Write> Json<'o, W> {
+impl<'o> Json<'o> {
     /// Creates a writer of JSON, with or without the bytes of items.
-    pub fn new(out: &'o mut W, has_bytes: bool) -> Self {
+    pub fn new(out: &'o mut dyn Write, has_bytes: bool) -> Self {
         Self { out, has_bytes, open: Vec::with_capacity(PARTS), is_first: true }
     }
 
@@ -215,7 +215,9 @@ impl<'o, W: Write> Json<'o, W> {
     ) -> io::Result<()> {
         self.put("{")?;
         for (at, (key, part)) in fields.into_iter().enumerate() {
-            write!(self.out, "{}\"{key}\":", if at == 0 { "" } else { "," })?;
+            self.put(if at == 0 { "\"" } else { ",\"" })?;
+            self.put(key)?;
+            self.put("\":")?;
             self.child(part)?;
         }
         self.put("}")
@@ -299,7 +301,7 @@ impl<'o, W: Write> Json<'o, W> {
     }
 }
 
-impl<W: Write> Report for Json<'_, W> {
+impl Report for Json<'_> {
     fn begin(&mut self, file: &OsStr) -> io::Result<()> {
         self.field("{", "file", Some(Quoted(Path::new(file).display())))
     }

@@ -3,7 +3,7 @@
 use super::cause::{self, Cause};
 use super::fault::{Fault, Kind};
 use super::phrase;
-use super::report::{Content, Contents, Core, Part, Report};
+use super::report::{Content, Contents, Core, Part};
 use super::walk::{Walk, label};
 use super::words;
 use std::io;
@@ -28,7 +28,7 @@ fn are_shown(section: &CoreSection) -> bool {
     matches!(section.kind(), Some(SectionId::Import | SectionId::Export | SectionId::Start))
 }
 
-impl<R: Report> Walk<'_, '_, R> {
+impl Walk<'_, '_> {
     /// Reports the sections of a core module, which begins at this byte offset in a component.
     pub(super) fn module(&mut self, at: usize, bytes: &[u8]) -> io::Result<()> {
         match CoreSections::new(bytes) {

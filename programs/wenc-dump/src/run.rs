@@ -16,13 +16,13 @@ use wenc::ListFault;
 use wenc::scope::Definitions;
 
 /// The streams that the program reads and writes.
-pub struct Streams<'s, I, O, E> {
+pub struct Streams<'s> {
     /// Standard input.
-    pub input: &'s mut I,
+    pub input: &'s mut dyn Read,
     /// Standard output.
-    pub out: &'s mut O,
+    pub out: &'s mut dyn Write,
     /// Standard error.
-    pub err: &'s mut E,
+    pub err: &'s mut dyn Write,
 }
 
 /// Where the output goes.
@@ -40,23 +40,10 @@ pub struct Terminal {
 pub fn run(
     arguments_with_name: impl Iterator<Item = OsString>,
     terminal: Terminal,
-    streams: &mut Streams<'_, impl Read, impl Write, impl Write>,
-) -> u8 {
-    let mut input: &mut dyn Read = streams.input;
-    let mut out: &mut dyn Write = streams.out;
-    let mut err: &mut dyn Write = streams.err;
-    let mut streams = Streams { input: &mut input, out: &mut out, err: &mut err };
-    run_with(&mut arguments_with_name.skip(1), terminal, &mut streams)
-}
-
-/// Does so for any streams, by code that is compiled once.
-fn run_with(
-    arguments: &mut dyn Iterator<Item = OsString>,
-    terminal: Terminal,
-    streams: &mut Streams<'_, &mut dyn Read, &mut dyn Write, &mut dyn Write>,
+    streams: &mut Streams,
 ) -> u8 {
     let mut status = 0;
-    let done = match request(arguments) {
+    let done = match request(arguments_with_name.skip(1)) {
         Ok(Request::Help) => print(streams.out, &format!("{USAGE}{HELP}")),
         Ok(Request::Version) => {
             print(streams.out, concat!("wenc-dump ", env!("CARGO_PKG_VERSION"), "\n"))
@@ -76,13 +63,13 @@ fn run_with(
     }
 }
 
-fn print(out: &mut impl Write, text: &str) -> io::Result<()> {
+fn print(out: &mut dyn Write, text: &str) -> io::Result<()> {
     out.write_all(text.as_bytes())?;
     out.flush()
 }
 
 /// Writes a message to standard error. An error is ignored, as it can't be reported.
-fn complain(err: &mut impl Write, message: fmt::Arguments) {
+fn complain(err: &mut dyn Write, message: fmt::Arguments) {
     let _ = err.write_fmt(message).and_then(|()| err.flush());
 }
 
@@ -90,7 +77,7 @@ fn complain(err: &mut impl Write, message: fmt::Arguments) {
 fn dump(
     options: &Options,
     terminal: Terminal,
-    streams: &mut Streams<'_, impl Read, impl Write, impl Write>,
+    streams: &mut Streams,
     status: &mut u8,
 ) -> io::Result<()> {
     for file in &options.files {
@@ -104,14 +91,14 @@ fn dump(
         };
         let done = if options.wit {
             wit(streams.out, file, streams.input, on_fault)
-        } else if options.json {
-            let mut json = Json::new(streams.out, options.hex);
-            let mut json = Selected::new(&mut json, &options.sections);
-            report(&mut json, (file, options.check), streams.input, on_fault)
         } else {
-            let mut text = Text::new(streams.out, Style::of(options, terminal));
-            let mut text = Selected::new(&mut text, &options.sections);
-            report(&mut text, (file, options.check), streams.input, on_fault)
+            let format: &mut dyn Report = if options.json {
+                &mut Json::new(streams.out, options.hex)
+            } else {
+                &mut Text::new(streams.out, Style::of(options, terminal))
+            };
+            let mut selected = Selected::new(format, &options.sections);
+            report(&mut selected, (file, options.check), streams.input, on_fault)
         };
         if !kept.0.is_empty() {
             complain(streams.err, format_args!("{}", kept.0));
@@ -157,7 +144,7 @@ impl Style {
 }
 
 /// Returns the bytes of a file.
-fn bytes_of(file: &OsStr, input: &mut impl Read) -> io::Result<Vec<u8>> {
+fn bytes_of(file: &OsStr, input: &mut dyn Read) -> io::Result<Vec<u8>> {
     if file != "-" {
         return fs::read(file);
     }
@@ -168,9 +155,9 @@ fn bytes_of(file: &OsStr, input: &mut impl Read) -> io::Result<Vec<u8>> {
 
 /// Prints the world of a component, as WIT, and calls `on_fault` with each fault.
 fn wit(
-    out: &mut impl Write,
+    out: &mut dyn Write,
     file: &OsStr,
-    input: &mut impl Read,
+    input: &mut dyn Read,
     on_fault: &mut dyn FnMut(&Fault),
 ) -> io::Result<()> {
     let bytes = match bytes_of(file, input) {
@@ -196,9 +183,9 @@ fn wit(
 
 /// Reports a file, with indices out of range if `has_check`, and calls `on_fault` with each fault.
 fn report(
-    report: &mut impl Report,
+    report: &mut dyn Report,
     (file, has_check): (&OsStr, bool),
-    input: &mut impl Read,
+    input: &mut dyn Read,
     on_fault: &mut dyn FnMut(&Fault),
 ) -> io::Result<()> {
     let mut first = None;

@@ -49,8 +49,8 @@ impl Kind {
 }
 
 /// A report of those sections of the file that are of these kinds; of all if there are no kinds.
-pub struct Selected<'r, R> {
-    report: &'r mut R,
+pub struct Selected<'r> {
+    report: &'r mut dyn Report,
     kinds: &'r [Kind],
     /// The number of open parts.
     depth: usize,
@@ -58,9 +58,9 @@ pub struct Selected<'r, R> {
     left_out: Option<usize>,
 }
 
-impl<'r, R: Report> Selected<'r, R> {
+impl<'r> Selected<'r> {
     /// Creates a report of sections of these kinds.
-    pub fn new(report: &'r mut R, kinds: &'r [Kind]) -> Self {
+    pub fn new(report: &'r mut dyn Report, kinds: &'r [Kind]) -> Self {
         Self { report, kinds, depth: 0, left_out: None }
     }
 
@@ -75,12 +75,12 @@ impl<'r, R: Report> Selected<'r, R> {
     }
 
     /// Passes a call on, unless the open section is left out.
-    fn pass(&mut self, to: impl FnOnce(&mut R) -> io::Result<()>) -> io::Result<()> {
+    fn pass(&mut self, to: impl FnOnce(&mut dyn Report) -> io::Result<()>) -> io::Result<()> {
         if self.left_out.is_none() { to(self.report) } else { Ok(()) }
     }
 }
 
-impl<R: Report> Report for Selected<'_, R> {
+impl Report for Selected<'_> {
     fn begin(&mut self, file: &OsStr) -> io::Result<()> {
         self.report.begin(file)
     }
@@ -110,7 +110,7 @@ impl<R: Report> Report for Selected<'_, R> {
         if self.left_out.take_if(|depth| *depth == self.depth).is_some() {
             return Ok(());
         }
-        self.pass(Report::close)
+        self.pass(|report| report.close())
     }
 
     fn end(&mut self, fault: Option<&Fault>) -> io::Result<()> {

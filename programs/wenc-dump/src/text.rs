@@ -36,8 +36,8 @@ pub struct Style {
 }
 
 /// Text whose lines are indented by their depth.
-pub struct Text<'o, W> {
-    out: &'o mut W,
+pub struct Text<'o> {
+    out: &'o mut dyn Write,
     pub(super) style: Style,
     /// The number of open parts.
     depth: usize,
@@ -48,7 +48,7 @@ pub struct Text<'o, W> {
 }
 
 /// Writes on the line.
-impl<W: Write> Write for Text<'_, W> {
+impl Write for Text<'_> {
     fn write(&mut self, bytes: &[u8]) -> io::Result<usize> {
         let len = self.out.write(bytes)?;
         // each character has one byte that isn't a continuation byte
@@ -61,14 +61,14 @@ impl<W: Write> Write for Text<'_, W> {
     }
 }
 
-impl<'o, W: Write> Text<'o, W> {
+impl<'o> Text<'o> {
     /// Creates a writer of text.
-    pub fn new(out: &'o mut W, style: Style) -> Self {
+    pub fn new(out: &'o mut dyn Write, style: Style) -> Self {
         Self { out, style, depth: 0, columns: 0, most: usize::MAX }
     }
 
     /// Creates a writer of text without colours, which fails after this many columns of a line.
-    pub(super) fn within(most: usize, out: &'o mut W) -> Self {
+    pub(super) fn within(most: usize, out: &'o mut dyn Write) -> Self {
         Self { most, ..Self::new(out, Style::default()) }
     }
 
@@ -89,7 +89,7 @@ impl<'o, W: Write> Text<'o, W> {
 
     pub(super) fn begin_line(&mut self, depth: usize) -> io::Result<()> {
         self.columns = INDENTATION.min(2 * depth);
-        write!(self.out, "{:width$}", "", width = self.columns)
+        self.out.write_all(&[b' '; INDENTATION][..self.columns])
     }
 
     pub(super) fn end_line(&mut self) -> io::Result<()> {
@@ -232,7 +232,7 @@ impl<'o, W: Write> Text<'o, W> {
     }
 }
 
-impl<W: Write> Report for Text<'_, W> {
+impl Report for Text<'_> {
     fn begin(&mut self, file: &OsStr) -> io::Result<()> {
         self.depth = 0;
         if self.style.has_titles {

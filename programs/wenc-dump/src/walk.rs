@@ -17,10 +17,10 @@ use wenc::{CoreSections, DebugNames, ListFault, SectionReader, Sections};
 pub const DEPTH: usize = 100;
 
 /// A walk through a file.
-pub struct Walk<'f, 'r, R> {
+pub struct Walk<'f, 'r> {
     /// The bytes of the file.
     pub(super) bytes: &'f [u8],
-    pub(super) report: &'r mut R,
+    pub(super) report: &'r mut dyn Report,
     /// The function to call with each fault.
     on_fault: &'r mut dyn FnMut(Fault),
     /// The debug names of the components around the next part, the outermost first.
@@ -52,7 +52,7 @@ pub(super) fn label<'a>(
 pub fn walk(
     bytes: &[u8],
     has_check: bool,
-    report: &mut impl Report,
+    report: &mut dyn Report,
     on_fault: &mut dyn FnMut(Fault),
 ) -> io::Result<()> {
     let check = Check::new(has_check);
@@ -74,7 +74,7 @@ fn names_of(sections: Sections) -> io::Result<DebugNames> {
     sections.try_names().map_err(|_| io::ErrorKind::OutOfMemory.into())
 }
 
-impl<'f, R: Report> Walk<'f, '_, R> {
+impl<'f> Walk<'f, '_> {
     /// Notes that a section of the innermost component with this id, or an item of it, can't be
     /// read.
     fn note(&mut self, section: u8, fault: &Fault) {

@@ -66,13 +66,13 @@ fn dump(options: &[&str], bytes: &[u8]) -> (u8, String, String) {
 
 /// Runs the program with these arguments, input and output. It is compiled once for all callers.
 fn run_into(
-    mut out: &mut dyn Write,
+    out: &mut dyn Write,
     arguments: &[&str],
     mut bytes: &[u8],
     terminal: Terminal,
 ) -> (u8, String) {
     let mut err = Vec::new();
-    let mut streams = Streams { input: &mut bytes, out: &mut out, err: &mut err };
+    let mut streams = Streams { input: &mut bytes, out, err: &mut err };
     let arguments = ["wenc-dump"].iter().chain(arguments).map(Into::into);
     let status = wenc_dump::run(arguments, terminal, &mut streams);
     (status, String::from_utf8(err).expect("text"))
