@@ -3,6 +3,7 @@
 #![forbid(unsafe_code)]
 
 mod arguments;
+mod buffer;
 mod cause;
 mod check;
 mod colours;

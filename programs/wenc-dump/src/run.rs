@@ -1,6 +1,7 @@
 //! Runs the program.
 
 use super::arguments::{HELP, Options, Request, USAGE, request};
+use super::buffer::Buffer;
 use super::escape::Escaped;
 use super::fault::{Fault, Kind};
 use super::json::Json;
@@ -10,8 +11,9 @@ use super::text::{COLUMNS, Style, Text};
 use super::walk::{DEPTH, walk};
 use super::wit::Wit;
 use std::ffi::{OsStr, OsString};
+use std::fmt::{self, Write as _};
+use std::fs;
 use std::io::{self, Read, Write};
-use std::{fmt, fs};
 use wenc::ListFault;
 use wenc::scope::Definitions;
 
@@ -81,12 +83,15 @@ fn dump(
     status: &mut u8,
 ) -> io::Result<()> {
     for file in &options.files {
-        let mut kept = Kept::default();
+        let name = Escaped(file);
+        // messages that are written after the line of JSON that they would interrupt
+        let mut kept = Buffer::default();
         let on_fault = &mut |fault: &Fault| {
             *status = fault.status().max(*status);
-            let is_kept = options.json && kept.add(format_args!("{}: {fault}\n", Escaped(file)));
-            if !is_kept {
-                complain(streams.err, format_args!("{}: {fault}\n", Escaped(file)));
+            let len = kept.0.len();
+            if !options.json || writeln!(kept, "{name}: {fault}").is_err() {
+                kept.0.truncate(len);
+                complain(streams.err, format_args!("{name}: {fault}\n"));
             }
         };
         let done = if options.wit {
@@ -106,30 +111,6 @@ fn dump(
         done?;
     }
     Ok(())
-}
-
-/// Messages that are written after the line of JSON that they would interrupt.
-#[derive(Default)]
-struct Kept(String);
-
-impl Kept {
-    /// Adds a message. Returns whether there is memory for it.
-    fn add(&mut self, message: fmt::Arguments) -> bool {
-        let len = self.0.len();
-        let is_added = fmt::Write::write_fmt(self, message).is_ok();
-        if !is_added {
-            self.0.truncate(len);
-        }
-        is_added
-    }
-}
-
-impl fmt::Write for Kept {
-    fn write_str(&mut self, text: &str) -> fmt::Result {
-        self.0.try_reserve(text.len()).map_err(|_| fmt::Error)?;
-        self.0.push_str(text);
-        Ok(())
-    }
 }
 
 impl Style {

@@ -6,10 +6,11 @@
 mod names;
 mod types;
 
+use super::buffer::Buffer;
 use names::{Id, Path};
 use std::collections::{BTreeMap, TryReserveError};
 use std::fmt::{self, Display, Write};
-use types::{Buffer, Text, name_of};
+use types::{Text, name_of};
 use wenc::scope::{Definition, Definitions, Meaning, Scope, ScopeFault};
 use wenc::tree::Space;
 use wenc::view::{DefinedView, ItemView, TypeView};

@@ -1,6 +1,6 @@
 //! Types as WIT.
 
-use super::{Id, Unwritten, Written};
+use super::{Buffer, Id, Unwritten, Written};
 use std::fmt::{self, Display, Write};
 use wenc::scope::{Definition, Meaning, Scope};
 use wenc::tree::Space;
@@ -23,18 +23,6 @@ pub(super) fn name_of<'a>(of: Definition<'_, 'a>) -> Option<&'a str> {
             of.scope().outer().is_none().then_some(name.name)
         }
         _ => None,
-    }
-}
-
-/// A text that grows, unless there is no memory.
-#[derive(Default)]
-pub(super) struct Buffer(pub String);
-
-impl Write for Buffer {
-    fn write_str(&mut self, text: &str) -> fmt::Result {
-        self.0.try_reserve(text.len()).map_err(|_| fmt::Error)?;
-        self.0.push_str(text);
-        Ok(())
     }
 }
 
