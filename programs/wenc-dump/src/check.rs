@@ -1,7 +1,7 @@
 //! The indices of the components around an item, and their check.
 
 use std::fmt::{self, Display};
-use wenc::tree::{IndexCounts, Node, Scope, Scopes, UsedIndex};
+use wenc::tree::{IndexCounts, Scope, Scopes, UsedIndex};
 use wenc::view::ItemView;
 
 /// The index counts of components, and the state of the check.
@@ -29,11 +29,6 @@ impl Check {
     pub fn scopes(&self) -> Option<Scopes<'_>> {
         self.is_on.then(|| Scopes::new(&self.counts))
     }
-}
-
-/// Returns the node of an item in these scopes, if they are known.
-pub fn node_in<'n>(item: &'n ItemView, scopes: Option<&'n Scopes>) -> Node<'n> {
-    scopes.map_or_else(|| item.node(), |scopes| item.node_in(scopes))
 }
 
 /// An index that is out of range, in words.

@@ -2,27 +2,15 @@
 
 use std::ffi::OsStr;
 
-/// A kind of text that has a colour.
-#[derive(Clone, Copy, PartialEq, Eq)]
+/// A kind of text that has a colour, with the number of the colour in ANSI escape sequences.
+#[derive(Clone, Copy)]
 pub enum Hue {
     /// A byte offset, or a range of them.
-    Place,
-    Index,
-    Name,
+    Place = 2,
     /// An index that is out of range.
-    Fault,
-}
-
-impl Hue {
-    /// Returns the number of the colour in ANSI escape sequences.
-    pub fn colour(self) -> u8 {
-        match self {
-            Self::Place => 2,
-            Self::Index => 36,
-            Self::Name => 32,
-            Self::Fault => 31,
-        }
-    }
+    Fault = 31,
+    Name = 32,
+    Index = 36,
 }
 
 /// Returns whether standard output is coloured, given the variables `NO_COLOR` and `TERM`.

@@ -77,7 +77,7 @@ impl<'o> Text<'o> {
         if !self.style.has_colours {
             return write!(self, "{text}");
         }
-        write!(self.out, "\x1b[{}m", hue.colour())?;
+        write!(self.out, "\x1b[{}m", hue as u8)?;
         write!(self, "{text}")?;
         write!(self.out, "\x1b[0m")
     }

@@ -1,7 +1,7 @@
 //! Walks through a file, part by part.
 
 use super::cause::{self, Cause};
-use super::check::{Check, node_in};
+use super::check::Check;
 use super::fault::{Fault, Kind};
 use super::phrase;
 use super::report::{Content, Contents, Label, Part, Report, Rest};
@@ -274,7 +274,8 @@ impl<'f> Walk<'f, '_> {
         let label = item.defined_indices().map(|(space, count)| label(counts, space, count, names));
         let bytes = &self.bytes[range.clone()];
         let scopes = self.check.scopes();
-        let node = phrase::of_item(node_in(item, scopes.as_ref()));
+        let node = scopes.as_ref().map_or_else(|| item.node(), |scopes| item.node_in(scopes));
+        let node = phrase::of_item(node);
         let (content, shown) = match item {
             ItemView::Module(_) => (Content::Module, &[][..]),
             ItemView::Custom { name, data } => {

@@ -90,16 +90,12 @@ impl Text {
             }
             DefinedView::Map { key, value } => self.generic(scope, "map", [Some(key), Some(value)]),
             DefinedView::Option(ty) => self.generic(scope, "option", [Some(ty)]),
-            DefinedView::Result { ok: None, err: None } => self.put(format_args!("result")),
-            DefinedView::Result { ok, err: None } => self.generic(scope, "result", [ok]),
             DefinedView::Result { ok, err } => self.generic(scope, "result", [ok, err]),
             DefinedView::Own(index) => self.index(scope, index),
             DefinedView::Borrow(index) => {
                 self.generic(scope, "borrow", [Some(ComponentValType::Type(index))])
             }
-            DefinedView::Future(None) => self.put(format_args!("future")),
             DefinedView::Future(ty) => self.generic(scope, "future", [ty]),
-            DefinedView::Stream(None) => self.put(format_args!("stream")),
             DefinedView::Stream(ty) => self.generic(scope, "stream", [ty]),
             DefinedView::Record(_)
             | DefinedView::Variant(_)
@@ -108,7 +104,8 @@ impl Text {
         }
     }
 
-    /// Appends the name of a generic type and its arguments, of which `_` is none.
+    /// Appends the name of a generic type and its arguments. An absent one is `_`, or is left out
+    /// if none follows it.
     fn generic<const N: usize>(
         &mut self,
         scope: Scope,
@@ -116,7 +113,10 @@ impl Text {
         types: [Option<ComponentValType>; N],
     ) -> Written {
         self.put(format_args!("{name}"))?;
-        self.arguments(scope, types.into_iter())
+        match types.iter().rposition(Option::is_some) {
+            Some(last) => self.arguments(scope, types.into_iter().take(last + 1)),
+            None => Ok(()),
+        }
     }
 
     fn arguments(
