@@ -51,17 +51,17 @@ fn start(options: &[&str], file: &Path) -> Output {
     Command::new(PROGRAM).args(options).arg(file).output().expect("the program starts")
 }
 
-/// Runs the program on these bytes, for this terminal. Returns its exit status and what it writes
-/// to standard output and to standard error.
-fn run(options: &[&str], bytes: &[u8], terminal: Terminal) -> (u8, String, String) {
+/// Runs the program with these arguments and this input, for this terminal. Returns its exit status
+/// and what it writes to standard output and to standard error.
+fn run(arguments: &[&str], input: &[u8], terminal: Terminal) -> (u8, String, String) {
     let mut out = Vec::new();
-    let (status, err) = run_into(&mut out, &[options, &["-"]].concat(), bytes, terminal);
+    let (status, err) = run_into(&mut out, arguments, input, terminal);
     (status, String::from_utf8(out).expect("text"), err)
 }
 
-/// Runs the program on these bytes, without a terminal.
+/// Runs the program with these options on these bytes, without a terminal.
 fn dump(options: &[&str], bytes: &[u8]) -> (u8, String, String) {
-    run(options, bytes, Terminal::default())
+    run(&[options, &["-"]].concat(), bytes, Terminal::default())
 }
 
 /// Runs the program with these arguments, input and output. It is compiled once for all callers.

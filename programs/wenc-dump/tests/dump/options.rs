@@ -2,8 +2,8 @@
 
 use crate::corpus::corpus;
 use crate::{
-    FUNCTION, FUNCTION_TEXT, PROGRAM, completions, component, expect_of, file, file_of, run_into,
-    start,
+    FUNCTION, FUNCTION_TEXT, PROGRAM, completions, component, dump, expect_of, file, file_of, run,
+    run_into, start,
 };
 use std::collections::BTreeSet;
 use std::fs;
@@ -14,16 +14,9 @@ use wenc_dump::Terminal;
 
 const USAGE: &str = "usage: wenc-dump [OPTION]... FILE...\n";
 
-/// Runs the program. Returns its exit status and what it writes to standard output and to standard
-/// error.
-fn run(arguments: &[&str], input: &[u8]) -> (u8, String, String) {
-    let mut out = Vec::new();
-    let (status, err) = run_into(&mut out, arguments, input, Terminal::default());
-    (status, String::from_utf8(out).expect("text"), err)
-}
-
 fn expect_run(arguments: &[&str], input: &[u8], (status, out, err): (u8, &str, &str)) {
-    assert_eq!(run(arguments, input), (status, out.into(), err.into()), "{arguments:?}");
+    let output = run(arguments, input, Terminal::default());
+    assert_eq!(output, (status, out.into(), err.into()), "{arguments:?}");
 }
 
 #[test]
@@ -58,13 +51,13 @@ fn the_words_for_sections_are_listed() {
     }
     let component = component(FUNCTION);
     for kind in KINDS.split(", ") {
-        assert_eq!(run(&["--section", kind, "-"], &component).0, 0, "{kind}");
+        assert_eq!(dump(&["--section", kind], &component).0, 0, "{kind}");
     }
 }
 
 /// The options that `--help` lists, those with a value with a `=`.
 fn listed_options() -> BTreeSet<String> {
-    let (_, help, _) = run(&["--help"], b"");
+    let (_, help, _) = dump(&["--help"], b"");
     let lines = help.lines().filter(|line| line.trim_start().starts_with('-'));
     let words = lines.flat_map(|line| line.split([' ', ',']).filter(|word| word.len() > 1));
     let options = words.filter(|word| word.starts_with('-'));
@@ -186,13 +179,13 @@ fn sections_are_those_of_the_file() {
 #[test]
 fn output_is_coloured_always_or_never() {
     let component = component(FUNCTION);
-    let (_, out, _) = run(&["--color=always", "-"], &component);
+    let (_, out, _) = dump(&["--color=always"], &component);
     assert!(out.starts_with("\x1b[2m0x0..0x17\x1b[0m component, 23 bytes\n"), "{out}");
     for never in ["--color=never", "--color=auto"] {
         expect_run(&[never, "-"], &component, (0, FUNCTION_TEXT, ""));
     }
     let terminal = Terminal { has_colours: true, columns: Some(40) };
-    let printed = crate::run(&["--color=never", "--width=100"], &component, terminal);
+    let printed = run(&["--color=never", "--width=100", "-"], &component, terminal);
     assert_eq!(printed, (0, FUNCTION_TEXT.into(), String::new()));
 }
 
@@ -213,7 +206,7 @@ fn lines_have_so_many_columns() {
 #[test]
 fn help_and_version() {
     for help in [&["--help"][..], &["-h"], &["-x", "-", "-h"]] {
-        let (status, out, err) = run(help, b"");
+        let (status, out, err) = dump(help, b"");
         assert_eq!((status, err.as_str()), (0, ""));
         assert!(out.starts_with(USAGE) && out.lines().all(|line| line.len() < 100));
         assert!(out.contains("standard input") && out.contains("\"fault\""), "{out}");
@@ -230,7 +223,7 @@ fn standard_input_is_read() {
     let bad = "-: no component's header at 0x0: found an empty file\n";
     expect_run(&["-"], b"", (1, "", bad));
     // after `--` all are files, and this one doesn't exist
-    let (status, _, err) = run(&["--", "--json"], b"");
+    let (status, _, err) = run(&["--", "--json"], b"", Terminal::default());
     assert!(status == 1 && err.starts_with("--json: "), "{err}");
 }
 

@@ -248,7 +248,7 @@ fn a_member_without_room_in_100_columns_is_folded() {
 /// What the program prints of the component with these sections, and its status.
 fn printed(sections: &[u8], options: &[&str], has_colours: bool) -> (String, u8) {
     let terminal = Terminal { has_colours, columns: None };
-    let (status, out, _) = run(options, &component(sections), terminal);
+    let (status, out, _) = run(&[options, &["-"]].concat(), &component(sections), terminal);
     (out, status)
 }
 

@@ -1,10 +1,13 @@
 //! Worlds as WIT: what is printed of the components of the corpus, beside the WIT that they were
 //! made of, and of others.
 
+#[allow(dead_code, reason = "a test needs no `main`")]
+#[path = "../../../../examples/first.rs"]
+mod first;
 mod reader;
 
 use crate::corpus::{corpus, paths};
-use crate::{FUNCTION, component, run};
+use crate::{FUNCTION, component, dump};
 use reader::World;
 use std::collections::{BTreeMap, BTreeSet};
 use std::fs;
@@ -12,10 +15,9 @@ use std::path::Path;
 use wenc::tree::Space;
 use wenc::view::{InstanceDeclView, ItemView, TypeView};
 use wenc::{
-    ComponentBuilder, ComponentDefinedTypeEncoder, ComponentExportKind, ComponentTypeRef,
-    ComponentValType, InstanceType, PrimitiveValType, Sections, TypeBounds,
+    ComponentBuilder, ComponentDefinedTypeEncoder, ComponentTypeRef, ComponentValType,
+    InstanceType, PrimitiveValType, Sections, TypeBounds,
 };
-use wenc_dump::Terminal;
 
 /// The names of what a component imports, each with those that an instance declares.
 type Imported = BTreeMap<String, BTreeSet<String>>;
@@ -70,7 +72,7 @@ fn worlds_are_those_of_the_corpus() {
         let name = path.file_stem().expect("it has a name").to_string_lossy();
         let bytes = fs::read(&path).expect("it is read");
         let wit = fs::read_to_string(corpus(&format!("wit/{name}.wit"))).expect("it is read");
-        let (status, out, err) = run(&["--wit"], &bytes, Terminal::default());
+        let (status, out, err) = dump(&["--wit"], &bytes);
         let printed = reader::read(&out);
         items += printed.items.len() + printed.imports.len() + printed.exports.len();
         items += printed.interfaces.values().map(BTreeMap::len).sum::<usize>();
@@ -92,7 +94,7 @@ fn worlds_are_those_of_the_corpus() {
 
 /// What is printed of the component with these sections, within its world, and what is said of it.
 fn expect(sections: &[u8], world: &str, said: &str) {
-    let (status, out, err) = run(&["--wit"], &component(sections), Terminal::default());
+    let (status, out, err) = dump(&["--wit"], &component(sections));
     let expected = format!("package root:component;\n\nworld root {{\n{world}}}\n");
     let said: String = said.lines().map(|line| format!("-: {line}\n")).collect();
     assert_eq!((&out, &err), (&expected, &said), "{sections:x?}");
@@ -133,7 +135,7 @@ fn what_is_no_world_is_told() {
         expected";
     expect(&lifted, &format!("  // {told}\n"), &format!("{fault}\n{told}"));
     // no component, of which nothing is printed
-    let (status, out, err) = run(&["--wit"], b"\0asm\x01\0\0\0", Terminal::default());
+    let (status, out, err) = dump(&["--wit"], b"\0asm\x01\0\0\0");
     assert_eq!((status, &out[..]), (1, ""));
     assert!(err.contains("no component's header at 0x0"), "{err}");
 }
@@ -166,19 +168,14 @@ package a:%list@1.0.0 {
   }
 }
 ";
-    let printed = run(&["--wit"], &builder.finish(), Terminal::default());
+    let printed = dump(&["--wit"], &builder.finish());
     assert_eq!(printed, (0, expected.into(), String::new()));
 }
 
-/// README's component, of `examples/first.rs`, and its world there.
+/// README's component, and its world there.
 #[test]
 fn of_the_readme() {
-    let mut builder = ComponentBuilder::default();
-    let (ty, mut function) = builder.type_function(None);
-    function.params([("n", PrimitiveValType::U32)]).result(None);
-    let f = builder.import("f", ComponentTypeRef::Func(ty));
-    builder.export("g", ComponentExportKind::Func, f, None);
-    let (status, out, _) = run(&["--wit"], &builder.finish(), Terminal::default());
+    let (status, out, _) = dump(&["--wit"], &first::passed_on());
     let readme = Path::new(env!("CARGO_MANIFEST_DIR")).join("../../README.md");
     let readme = fs::read_to_string(readme).expect("it is there");
     let (_, world) = readme.split_once("\n    world").expect("the world is there");
@@ -205,13 +202,13 @@ fn chained(count: u32, each: fn(ComponentDefinedTypeEncoder<'_>, ComponentValTyp
 #[test]
 fn large_types_are_told() {
     let of_lists = |count| chained(count, |ty, before| ty.list(before));
-    let (status, out, err) = run(&["--wit"], &of_lists(99), Terminal::default());
+    let (status, out, err) = dump(&["--wit"], &of_lists(99));
     let ty = ["list<".repeat(99), "u8".into(), ">".repeat(99)].concat();
     assert_eq!((status, &err[..]), (0, ""));
     assert!(out.contains(&format!("  import f: func(x: {ty});\n")), "{out}");
     let of_tuples = chained(60, |ty, before| ty.tuple([before, before]));
     for component in [of_lists(100), of_tuples] {
-        let (status, out, err) = run(&["--wit"], &component, Terminal::default());
+        let (status, out, err) = dump(&["--wit"], &component);
         assert_eq!(status, 1);
         assert!(err.starts_with("-: no WIT: a type that is too large at 0x"), "{err}");
         assert!(out.len() < 200 && out.contains("// no WIT: "), "{out}");
