@@ -12,64 +12,36 @@ use wenc::{
 };
 
 /// `enum wenc_primitive`, from 1 on.
-const PRIMITIVES: [PrimitiveValType; 14] = [
-    PrimitiveValType::Bool,
-    PrimitiveValType::S8,
-    PrimitiveValType::U8,
-    PrimitiveValType::S16,
-    PrimitiveValType::U16,
-    PrimitiveValType::S32,
-    PrimitiveValType::U32,
-    PrimitiveValType::S64,
-    PrimitiveValType::U64,
-    PrimitiveValType::F32,
-    PrimitiveValType::F64,
-    PrimitiveValType::Char,
-    PrimitiveValType::String,
-    PrimitiveValType::ErrorContext,
-];
+const PRIMITIVES: [PrimitiveValType; 14] = {
+    use PrimitiveValType::*;
+    [Bool, S8, U8, S16, U16, S32, U32, S64, U64, F32, F64, Char, String, ErrorContext]
+};
 
 /// `enum wenc_kind`.
-const KINDS: [ComponentExportKind; 6] = [
-    ComponentExportKind::Module,
-    ComponentExportKind::Func,
-    ComponentExportKind::Value,
-    ComponentExportKind::Type,
-    ComponentExportKind::Component,
-    ComponentExportKind::Instance,
-];
+const KINDS: [ComponentExportKind; 6] = {
+    use ComponentExportKind::*;
+    [Module, Func, Value, Type, Component, Instance]
+};
 
 /// `enum wenc_core_kind`.
 const CORE_KINDS: [ExportKind; 5] =
     [ExportKind::Func, ExportKind::Table, ExportKind::Memory, ExportKind::Global, ExportKind::Tag];
 
 /// `enum wenc_outer_kind`.
-const OUTER_KINDS: [ComponentOuterAliasKind; 4] = [
-    ComponentOuterAliasKind::CoreModule,
-    ComponentOuterAliasKind::CoreType,
-    ComponentOuterAliasKind::Type,
-    ComponentOuterAliasKind::Component,
-];
+const OUTER_KINDS: [ComponentOuterAliasKind; 4] = {
+    use ComponentOuterAliasKind::*;
+    [CoreModule, CoreType, Type, Component]
+};
 
 /// `enum wenc_core_type`, from 1 on: the numbers.
 const NUMBERS: [CoreValType; 5] =
     [CoreValType::I32, CoreValType::I64, CoreValType::F32, CoreValType::F64, CoreValType::V128];
 
 /// `enum wenc_core_type`, after those: the heap types of references.
-const HEAP_TYPES: [CoreAbstractHeapType; 12] = [
-    CoreAbstractHeapType::Func,
-    CoreAbstractHeapType::Extern,
-    CoreAbstractHeapType::Any,
-    CoreAbstractHeapType::None,
-    CoreAbstractHeapType::NoExtern,
-    CoreAbstractHeapType::NoFunc,
-    CoreAbstractHeapType::Eq,
-    CoreAbstractHeapType::Struct,
-    CoreAbstractHeapType::Array,
-    CoreAbstractHeapType::I31,
-    CoreAbstractHeapType::Exn,
-    CoreAbstractHeapType::NoExn,
-];
+const HEAP_TYPES: [CoreAbstractHeapType; 12] = {
+    use CoreAbstractHeapType::*;
+    [Func, Extern, Any, None, NoExtern, NoFunc, Eq, Struct, Array, I31, Exn, NoExn]
+};
 
 /// `enum wenc_core_type`, after those: a core type by its index, and the packed types.
 const CONCRETE: u32 = 18;
