@@ -167,7 +167,7 @@ fn fault_at(bytes: &[u8], section: usize) -> Option<ListFault> {
         return Sections::new(bytes).err();
     }
     match Sections::at(bytes, section)?.next()? {
-        Ok(section) => section.items().find_map(core::result::Result::err),
+        Ok(section) => section.items().find_map(Result::err),
         Err(fault) => Some(fault),
     }
 }
@@ -192,14 +192,16 @@ impl fmt::Write for Written {
     }
 }
 
-/// Writes why something can't be read, or an empty string. Returns the length of it all.
-unsafe fn write_fault(fault: Option<impl fmt::Display>, text: *mut c_char, size: usize) -> usize {
+/// Calls a function that writes a string, or nothing. Returns the length of the whole string.
+unsafe fn write_text(
+    text: *mut c_char,
+    size: usize,
+    write: impl FnOnce(&mut Written) -> Option<fmt::Result>,
+) -> usize {
     let size = if text.is_null() { 0 } else { size };
     let mut written = Written { text, size, len: 0 };
-    if let Some(fault) = fault {
-        // Nothing fails.
-        let _ = write!(written, "{fault}");
-    }
+    // No write fails.
+    let _ = write(&mut written);
     if let Some(last) = size.checked_sub(1) {
         unsafe { text.add(written.len.min(last)).write(0) };
     }
@@ -214,63 +216,39 @@ pub unsafe extern "C" fn wenc_fault_text(
     text: *mut c_char,
     size: usize,
 ) -> usize {
-    let fault = unsafe { list(bytes, len) }.ok().and_then(|bytes| fault_at(bytes, section));
-    unsafe { write_fault(fault, text, size) }
+    let fault = || fault_at(unsafe { list(bytes, len) }.ok()?, section);
+    unsafe { write_text(text, size, |to| Some(write!(to, "{}", fault()?))) }
 }
 
-/// Why bytes aren't one item, or what an item contains can't be read.
-enum ItemFault {
-    Item(ListFault),
-    Names(NamesFault),
-    Producers(ProducersFault),
-}
-
-impl fmt::Display for ItemFault {
-    fn fmt(&self, f: &mut fmt::Formatter<'_>) -> fmt::Result {
-        match self {
-            Self::Item(fault) => fault.fmt(f),
-            Self::Names(fault) => fault.fmt(f),
-            Self::Producers(fault) => fault.fmt(f),
-        }
-    }
-}
-
-impl ItemFault {
-    /// Returns why these bytes aren't one item of a section.
-    fn of(section: ComponentSectionId, bytes: &[u8]) -> Option<Self> {
-        let mut items = Items::at(bytes, section, 0..bytes.len(), 1)?;
-        match (items.next()?, items.next()) {
-            (Err(fault), _) | (_, Some(Err(fault))) => Some(Self::Item(fault)),
-            (Ok((_, ItemView::Custom { name, data })), _) => {
-                Self::of_custom(name, data, bytes.len() - data.len())
-            }
-            _ => None,
-        }
-    }
-
-    /// Returns why the data of a custom section, which begins at this byte offset, can't be read.
-    fn of_custom(name: &str, data: &[u8], start: usize) -> Option<Self> {
-        match name {
-            DebugNames::SECTION => match NamesReader::new(data).find_map(fault_of)? {
-                NamesFault::BadSubsection { place, cause } => {
-                    let (place, cause) = (start.saturating_add(place), cause.moved(start));
-                    Some(Self::Names(NamesFault::BadSubsection { place, cause }))
-                }
-                fault => Some(Self::Names(fault)),
-            },
-            ProducersReader::SECTION => {
-                let ProducersFault { place, cause } =
-                    ProducersReader::new(data).find_map(fault_of)?;
+/// Writes why bytes aren't one item of a section, or why what a custom section contains can't be
+/// read.
+fn write_item_fault(
+    to: &mut Written,
+    section: ComponentSectionId,
+    bytes: &[u8],
+) -> Option<fmt::Result> {
+    let mut items = Items::at(bytes, section, 0..bytes.len(), 1)?;
+    let (name, data) = match (items.next()?, items.next()) {
+        (Err(fault), _) | (_, Some(Err(fault))) => return Some(write!(to, "{fault}")),
+        (Ok((_, ItemView::Custom { name, data })), _) => (name, data),
+        _ => return None,
+    };
+    let start = bytes.len() - data.len();
+    Some(match name {
+        DebugNames::SECTION => match NamesReader::new(data).find_map(Result::err)? {
+            NamesFault::BadSubsection { place, cause } => {
                 let (place, cause) = (start.saturating_add(place), cause.moved(start));
-                Some(Self::Producers(ProducersFault { place, cause }))
+                write!(to, "{}", NamesFault::BadSubsection { place, cause })
             }
-            _ => None,
+            fault => write!(to, "{fault}"),
+        },
+        ProducersReader::SECTION => {
+            let fault = ProducersReader::new(data).find_map(Result::err)?;
+            let (place, cause) = (start.saturating_add(fault.place), fault.cause.moved(start));
+            write!(to, "{}", ProducersFault { place, cause })
         }
-    }
-}
-
-fn fault_of<T, E>(read: core::result::Result<T, E>) -> Option<E> {
-    read.err()
+        _ => return None,
+    })
 }
 
 #[unsafe(no_mangle)]
@@ -281,8 +259,10 @@ pub unsafe extern "C" fn wenc_item_fault_text(
     text: *mut c_char,
     size: usize,
 ) -> usize {
-    let fault = || ItemFault::of(numbers::section(section)?, unsafe { list(bytes, len) }.ok()?);
-    unsafe { write_fault(fault(), text, size) }
+    let bytes = || unsafe { list(bytes, len) }.ok();
+    unsafe {
+        write_text(text, size, |to| write_item_fault(to, numbers::section(section)?, bytes()?))
+    }
 }
 
 /// Returns the component that a handle has read.
