@@ -43,21 +43,11 @@ impl<'a> Signature<'a> {
 
 /// Returns the type of this name.
 fn primitive(name: &str) -> Result<Primitive, String> {
-    Ok(match name.trim() {
-        "bool" => Primitive::Bool,
-        "char" => Primitive::Char,
-        "s8" => Primitive::S8,
-        "u8" => Primitive::U8,
-        "s16" => Primitive::S16,
-        "u16" => Primitive::U16,
-        "s32" => Primitive::S32,
-        "u32" => Primitive::U32,
-        "s64" => Primitive::S64,
-        "u64" => Primitive::U64,
-        "f32" => Primitive::F32,
-        "f64" => Primitive::F64,
-        name => return Err(format!("no type of one value: {name}")),
-    })
+    use Primitive::*;
+    let all = [Bool, Char, S8, U8, S16, U16, S32, U32, S64, U64, F32, F64];
+    let name = name.trim();
+    let of_name = all.into_iter().find(|ty| ty.to_string() == name);
+    of_name.ok_or_else(|| format!("no type of one value: {name}"))
 }
 
 /// Returns the component. Each call returns the index of what it adds, which is passed to later

@@ -102,22 +102,9 @@ impl<'a> Reader<'a> {
 
 /// Returns the primitive type of this name.
 fn primitive(name: &str) -> Option<Primitive> {
-    Some(match name {
-        "bool" => Primitive::Bool,
-        "char" => Primitive::Char,
-        "string" => Primitive::String,
-        "s8" => Primitive::S8,
-        "u8" => Primitive::U8,
-        "s16" => Primitive::S16,
-        "u16" => Primitive::U16,
-        "s32" => Primitive::S32,
-        "u32" => Primitive::U32,
-        "s64" => Primitive::S64,
-        "u64" => Primitive::U64,
-        "f32" => Primitive::F32,
-        "f64" => Primitive::F64,
-        _ => return None,
-    })
+    use Primitive::*;
+    let all = [Bool, Char, String, S8, U8, S16, U16, S32, U32, S64, U64, F32, F64];
+    all.into_iter().find(|ty| ty.to_string() == name)
 }
 
 /// Writes the type constructor of this name, applied to these types.
