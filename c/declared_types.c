@@ -28,10 +28,13 @@ static const wenc_text *named(const char *literal) {
 
 /* Requires that the call succeeds and writes this index. */
 #define ADDS(call, expected)                             \
-  do {                                                 \
-    uint32_t index = 99;                               \
+  do {                                                   \
+    uint32_t index = 99;                                 \
     REQUIRE((call) == WENC_DONE && index == (expected)); \
   } while (0)
+
+/* Requires that the call has a bad argument. */
+#define REFUSES(call) REQUIRE((call) == WENC_BAD_ARGUMENT)
 
 /* An interface: a resource, a record, and a function of both. */
 static void declare_interface(wenc_handle *types) {
@@ -67,17 +70,16 @@ static void pass_others(wenc_handle *types, wenc_handle *builder) {
   uint32_t index = 7;
   size_t len;
   wenc_handle none = {NULL};
-  REQUIRE(wenc_import(types, WENC_TEXT("f"), WENC_REF_FUNC, 0, &index) == WENC_BAD_ARGUMENT);
-  REQUIRE(wenc_type_own(types, named("n"), 0, &index) == WENC_BAD_ARGUMENT);
-  REQUIRE(wenc_core_module(types, NULL, NULL, 0, &index) == WENC_BAD_ARGUMENT);
-  REQUIRE(wenc_export(types, WENC_TEXT("f"), WENC_FUNC, 0, WENC_REF_NONE, 0, &index) ==
-          WENC_BAD_ARGUMENT);
-  REQUIRE(wenc_component_ref(builder, NULL, types, &index) == WENC_BAD_ARGUMENT);
-  REQUIRE(wenc_finish(types, NULL, &len) == WENC_BAD_ARGUMENT);
-  REQUIRE(wenc_count(types, WENC_FUNCS, &index) == WENC_BAD_ARGUMENT);
-  REQUIRE(wenc_types_new(types, WENC_INSTANCE) == WENC_BAD_ARGUMENT);
+  REFUSES(wenc_import(types, WENC_TEXT("f"), WENC_REF_FUNC, 0, &index));
+  REFUSES(wenc_type_own(types, named("n"), 0, &index));
+  REFUSES(wenc_core_module(types, NULL, NULL, 0, &index));
+  REFUSES(wenc_export(types, WENC_TEXT("f"), WENC_FUNC, 0, WENC_REF_NONE, 0, &index));
+  REFUSES(wenc_component_ref(builder, NULL, types, &index));
+  REFUSES(wenc_finish(types, NULL, &len));
+  REFUSES(wenc_count(types, WENC_FUNCS, &index));
+  REFUSES(wenc_types_new(types, WENC_INSTANCE));
   REQUIRE(wenc_types_new(&none, WENC_FUNC) == WENC_BAD_ARGUMENT && none.at == NULL);
-  REQUIRE(wenc_type_export(builder, WENC_TEXT("f"), WENC_REF_FUNC, 0, &index) == WENC_BAD_ARGUMENT);
+  REFUSES(wenc_type_export(builder, WENC_TEXT("f"), WENC_REF_FUNC, 0, &index));
   REQUIRE(wenc_type(builder, NULL, &none, &index) == WENC_NO_HANDLE);
   REQUIRE(index == 7);
 }
@@ -102,13 +104,10 @@ static void add_functions(wenc_handle *builder) {
   ADDS(wenc_task_return(builder, WENC_REF_NONE, 0, options, 0, &index), 7);
   ADDS(wenc_context(builder, WENC_CONTEXT_GET, WENC_CORE_I32, 0, &index), 8);
   ADDS(wenc_context(builder, WENC_CONTEXT_SET, WENC_CORE_I64, 200, &index), 9);
-  REQUIRE(wenc_builtin_with(builder, WENC_STREAM_READ, 0, ALL(unknown), &index) ==
-          WENC_BAD_ARGUMENT);
-  REQUIRE(wenc_builtin_with(builder, (enum wenc_function_with)7, 0, options, 0, &index) ==
-          WENC_BAD_ARGUMENT);
-  REQUIRE(wenc_task_return(builder, WENC_REF_FUNC, 0, options, 0, &index) == WENC_BAD_ARGUMENT);
-  REQUIRE(wenc_context(builder, WENC_CONTEXT_GET, WENC_CORE_FUNCREF, 0, &index) ==
-          WENC_BAD_ARGUMENT);
+  REFUSES(wenc_builtin_with(builder, WENC_STREAM_READ, 0, ALL(unknown), &index));
+  REFUSES(wenc_builtin_with(builder, (enum wenc_function_with)7, 0, options, 0, &index));
+  REFUSES(wenc_task_return(builder, WENC_REF_FUNC, 0, options, 0, &index));
+  REFUSES(wenc_context(builder, WENC_CONTEXT_GET, WENC_CORE_FUNCREF, 0, &index));
   REQUIRE(index == 7);
 }
 
@@ -155,29 +154,23 @@ static void pass_to_module(wenc_handle *types, wenc_handle *builder) {
   uint32_t index = 7;
   wenc_handle none = {NULL}, other = {NULL};
   REQUIRE(wenc_types_new(&other, WENC_INSTANCE) == WENC_DONE);
-  REQUIRE(wenc_import(types, WENC_TEXT("f"), WENC_REF_FUNC, 0, &index) == WENC_BAD_ARGUMENT);
-  REQUIRE(wenc_type_export(types, WENC_TEXT("f"), WENC_REF_FUNC, 0, &index) == WENC_BAD_ARGUMENT);
-  REQUIRE(wenc_type_own(types, NULL, 0, &index) == WENC_BAD_ARGUMENT);
-  REQUIRE(wenc_type(types, NULL, &other, &index) == WENC_BAD_ARGUMENT);
-  REQUIRE(wenc_alias_outer(types, NULL, WENC_OUTER_TYPE, 1, 0, &index) ==
-          WENC_BAD_ARGUMENT);
-  REQUIRE(wenc_alias_export(types, 0, WENC_TYPE, WENC_TEXT("t"), &index) == WENC_BAD_ARGUMENT);
-  REQUIRE(wenc_core_type_function(types, named("n"), ALL(known), ALL(known), &index) ==
-          WENC_BAD_ARGUMENT);
-  REQUIRE(wenc_core_type_function(types, NULL, ALL(unknown), ALL(known), &index) ==
-          WENC_BAD_ARGUMENT);
-  REQUIRE(wenc_core_type_function(types, NULL, ALL(known), ALL(unknown), &index) ==
-          WENC_BAD_ARGUMENT);
-  REQUIRE(wenc_count(types, WENC_TYPES, &index) == WENC_BAD_ARGUMENT);
-  REQUIRE(wenc_core_type_import(types, WENC_TEXT("m"), WENC_TEXT("n"), &kind) == WENC_BAD_ARGUMENT);
-  REQUIRE(wenc_core_type_import(types, WENC_TEXT("m"), WENC_TEXT("n"), &table) ==
-          WENC_BAD_ARGUMENT);
-  REQUIRE(wenc_core_type_export(types, WENC_TEXT("n"), &global) == WENC_BAD_ARGUMENT);
+  REFUSES(wenc_import(types, WENC_TEXT("f"), WENC_REF_FUNC, 0, &index));
+  REFUSES(wenc_type_export(types, WENC_TEXT("f"), WENC_REF_FUNC, 0, &index));
+  REFUSES(wenc_type_own(types, NULL, 0, &index));
+  REFUSES(wenc_type(types, NULL, &other, &index));
+  REFUSES(wenc_alias_outer(types, NULL, WENC_OUTER_TYPE, 1, 0, &index));
+  REFUSES(wenc_alias_export(types, 0, WENC_TYPE, WENC_TEXT("t"), &index));
+  REFUSES(wenc_core_type_function(types, named("n"), ALL(known), ALL(known), &index));
+  REFUSES(wenc_core_type_function(types, NULL, ALL(unknown), ALL(known), &index));
+  REFUSES(wenc_core_type_function(types, NULL, ALL(known), ALL(unknown), &index));
+  REFUSES(wenc_count(types, WENC_TYPES, &index));
+  REFUSES(wenc_core_type_import(types, WENC_TEXT("m"), WENC_TEXT("n"), &kind));
+  REFUSES(wenc_core_type_import(types, WENC_TEXT("m"), WENC_TEXT("n"), &table));
+  REFUSES(wenc_core_type_export(types, WENC_TEXT("n"), &global));
   REQUIRE(wenc_core_type_import(types, WENC_TEXT("m"), WENC_TEXT("\xff"), &function) ==
           WENC_MALFORMED);
-  REQUIRE(wenc_core_type_import(&other, WENC_TEXT("m"), WENC_TEXT("n"), &function) ==
-          WENC_BAD_ARGUMENT);
-  REQUIRE(wenc_core_type_export(builder, WENC_TEXT("n"), &function) == WENC_BAD_ARGUMENT);
+  REFUSES(wenc_core_type_import(&other, WENC_TEXT("m"), WENC_TEXT("n"), &function));
+  REFUSES(wenc_core_type_export(builder, WENC_TEXT("n"), &function));
   REQUIRE(wenc_core_type_export(&none, WENC_TEXT("n"), &function) == WENC_NO_HANDLE);
   REQUIRE(index == 7);
   wenc_free(&other);
@@ -188,13 +181,11 @@ static void declare_around(wenc_handle *instance, wenc_handle *component, wenc_h
   static const wenc_pair of_instance[] = {{WENC_CORE_F32, 0}};
   static const wenc_pair of_component[] = {{WENC_CORE_FUNCREF, 0}};
   REQUIRE(wenc_types_new(instance, WENC_INSTANCE) == WENC_DONE);
-  ADDS(wenc_core_type_function(instance, NULL, of_instance, 0, ALL(of_instance), &index),
-       0);
+  ADDS(wenc_core_type_function(instance, NULL, of_instance, 0, ALL(of_instance), &index), 0);
   ADDS(wenc_type(instance, NULL, module, &index), 1);
   ADDS(wenc_type_export(instance, WENC_TEXT("made"), WENC_REF_MODULE, 1, &index), 0);
   REQUIRE(wenc_types_new(component, WENC_COMPONENT) == WENC_DONE);
-  ADDS(wenc_core_type_function(component, NULL, ALL(of_component), of_component, 0, &index),
-       0);
+  ADDS(wenc_core_type_function(component, NULL, ALL(of_component), of_component, 0, &index), 0);
   ADDS(wenc_type(component, NULL, module, &index), 1);
   ADDS(wenc_alias_outer(component, NULL, WENC_OUTER_CORE_TYPE, 1, 0, &index), 2);
   ADDS(wenc_import(component, WENC_TEXT("from"), WENC_REF_MODULE, 1, &index), 0);
