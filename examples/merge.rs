@@ -4,10 +4,10 @@
 //! cargo run -r --features tree --example merge -- ONE OTHER OUT
 //! ```
 //!
-//! The items of the second follow those of the first, and each index that they contain is changed
-//! to that of the same item in the whole. What both import under one name is imported once, and the
-//! second uses the import of the first: whether their types agree is left to a validator. They
-//! export different names. Debug names are kept, except that of the second component itself.
+//! The items of the second follow those of the first, and their indices are changed to those in the
+//! merged component. What both import under one name is imported once, and the second uses the
+//! import of the first: whether the types agree is left to a validator. It is an error if both
+//! export the same name. Debug names are kept, except that of the second component itself.
 
 use wenc::tree::{Command, IndexCounts, IndexUse, ItemTree, NameTree, Scope, Space, build};
 use wenc::{ComponentExportKind as Kind, ComponentNameSection, DebugNames, Sections};
@@ -15,22 +15,22 @@ use wenc::{ComponentExportKind as Kind, ComponentNameSection, DebugNames, Sectio
 /// The maximum nesting depth of components.
 const LIMIT: usize = 100;
 
-/// The indices in the whole of a component's items.
+/// The indices of a component's items, in it and in the merged component.
 #[derive(Default)]
 struct Moved {
-    /// The first index of each item, and that index in the whole, by the number of their space.
+    /// The first index of each item in both, by the number of their space.
     firsts: [Vec<(u64, u64)>; 13],
     counts: IndexCounts,
 }
 
 impl Moved {
-    /// Adds the next indices in a space, which begin at `to` in the whole.
+    /// Adds the next indices in a space, which begin at `to` in the merged component.
     fn define(&mut self, space: Space, count: u32, to: u64) {
         self.firsts[space.number()].push((self.counts.of(space), to));
         self.counts.define(Some((space, count)));
     }
 
-    /// Returns the index in the whole. A valid component has no index that nothing defines.
+    /// Returns the index in the merged component. In a valid component each index is defined.
     fn index(&self, space: Space, index: u32) -> u32 {
         let firsts = &self.firsts[space.number()];
         let after = firsts.partition_point(|(first, _)| *first <= index.into());
@@ -109,7 +109,7 @@ impl Merged {
         Ok(())
     }
 
-    /// Returns the component of all items.
+    /// Returns the merged component.
     fn finish(mut self) -> Result<Vec<u8>, String> {
         let names = ComponentNameSection::from(&self.names);
         if !names.is_empty() {
@@ -220,14 +220,15 @@ mod tests {
     }
 
     #[test]
-    fn what_is_wrong_is_told() {
+    fn faults_are_errors() {
         let export = component(&[F, b"\x0b\x07\x01\0\x01h\x01\0\0"]);
         assert_eq!(merge(&export, &export), Err("both export h".into()));
         assert_eq!(merge(b"", &export), Err("no component's header at 0x0: found nothing".into()));
         let start = component(&[b"\x09\x07\0\0\xff\xff\xff\xff\x0f"]);
         assert_eq!(merge(&start, &start), Err("too many".into()));
         let nested = component(&[b"\x04\x01\0"]);
-        let told = "a nested component isn't read: no component's header at 0x0: found other bytes";
-        assert_eq!(merge(&nested, &start), Err(told.into()));
+        let fault =
+            "a nested component isn't read: no component's header at 0x0: found other bytes";
+        assert_eq!(merge(&nested, &start), Err(fault.into()));
     }
 }

@@ -176,7 +176,7 @@ fn fault_at(bytes: &[u8], section: usize) -> Option<ListFault> {
 struct Written {
     text: *mut c_char,
     size: usize,
-    /// The number of bytes that were to be written.
+    /// The length of the string so far, with what exceeds the capacity.
     len: usize,
 }
 

@@ -81,7 +81,7 @@ impl ItemRow {
         row
     }
 
-    /// Describes a custom section, until more is known.
+    /// Describes an item of which only the section and the byte offsets are known.
     fn of_section(section: u32, range: Range<usize>) -> Self {
         Self {
             index: 0,

@@ -46,9 +46,9 @@ pub struct Options {
     pub check: bool,
     pub wit: bool,
     pub json: bool,
-    /// The kinds of the sections that are printed; none for all.
+    /// The kinds of sections to print; all sections are printed if there are none.
     pub sections: Vec<Kind>,
-    /// Whether the output is coloured; `None` for colours on a terminal only.
+    /// Whether to colour the output; `None` if only on a terminal.
     pub colours: Option<bool>,
     /// The maximum number of columns of a line.
     pub columns: Option<usize>,

@@ -14,7 +14,8 @@ pub enum Cause {
     Start { place: usize, bytes: [u8; 8], len: usize },
 }
 
-/// Returns what these bytes have in place of a header, where `found` doesn't contain it.
+/// Returns the version or the first bytes of a header that can't be read, if it is one of another
+/// version or other bytes.
 pub fn of_header(place: usize, found: Found, bytes: &[u8]) -> Option<Cause> {
     match found {
         Found::OtherVersion => {

@@ -8,18 +8,20 @@ use std::io::{self, Write};
 use wenc::DebugNames;
 use wenc::tree::{Child, Fields, List, Node, Scope};
 
-/// The number of characters of a name after an index. A long name may be printed many times.
+/// The number of characters that are printed of a name after an index. A long one may
+/// be printed many times.
 const NAME: usize = 80;
 
 /// The debug names of the components around a node, the outermost first.
 pub type Names<'a> = &'a [DebugNames];
 
-/// The maximum number of bytes that are printed in one column, with room to spare: a number of 64
-/// bits is read from up to 10 bytes, and a character from up to 4.
+/// An upper bound of the number of bytes that a column of output is read from: a number of 64 bits
+/// is read from at most 10 bytes, and a character from at most 4.
 const COLUMN: usize = 16;
 
-/// Returns whether the node fits in this many columns. It isn't read further than that, nor at all
-/// if it was read from too many bytes: so a large node isn't read again for each level around it.
+/// Returns whether the node fits in this many columns. Nothing is read past these columns, nor at
+/// all if the node is encoded in too many bytes: so a large node isn't read again for each level
+/// around it.
 fn fits(node: &Node, encoded_len: Option<usize>, names: Names, columns: usize) -> bool {
     encoded_len.is_none_or(|len| len / COLUMN <= columns)
         && Text::within(columns, &mut io::sink()).flat(node, names).is_ok()
@@ -67,8 +69,8 @@ fn name_of<'a>(node: &Node, names: Names<'a>) -> Option<&'a str> {
 }
 
 impl Text<'_> {
-    /// Writes a node on a line of this depth, with `after` columns to spare. It was read from so
-    /// many bytes, if that is known.
+    /// Writes a node on a line of this depth, with `after` columns left for what follows it. The
+    /// node is encoded in `encoded_len` bytes, if that is known.
     pub(super) fn node(
         &mut self,
         node: &Node,

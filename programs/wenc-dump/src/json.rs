@@ -26,13 +26,14 @@ pub struct Json<'o> {
     is_first: bool,
 }
 
-/// The text that closes a part.
+/// The texts that close a part.
 struct Open {
-    /// The text before the byte offset of the part that isn't read; `None` once both are written.
+    /// The text that closes its list; `None` once that is written, with the byte offset of what
+    /// can't be read.
     list: Option<&'static str>,
     /// Whether the part has a field for that byte offset even if everything is read.
     has_unread: bool,
-    /// The text after it.
+    /// The text that closes its object.
     object: &'static str,
 }
 
@@ -47,11 +48,11 @@ impl<T: Display> Display for Quoted<T> {
     }
 }
 
-/// A writer of the letters of a string.
+/// A writer of the characters of a string.
 struct Letters<'f, 'a>(&'f mut fmt::Formatter<'a>);
 
-/// Returns whether a letter is escaped: if JSON requires it, and if the letter is invisible, or
-/// breaks a line or changes its direction.
+/// Returns whether a character is escaped: if JSON requires it, and if it is invisible, breaks a
+/// line or changes the direction of the text.
 fn is_escaped(letter: char) -> bool {
     matches!(letter, '"' | '\\')
         || letter.is_control()
@@ -83,7 +84,7 @@ impl<'o> Json<'o> {
         self.out.write_all(text.as_bytes())
     }
 
-    /// Writes a key after its lead, a comma or a brace, and a value or null.
+    /// Writes a key, after a comma or a brace in `lead`, and its value or null.
     fn field(&mut self, lead: &str, key: &str, value: Option<impl Display>) -> io::Result<()> {
         write!(self.out, "{lead}\"{key}\":")?;
         match value {
@@ -202,7 +203,7 @@ impl<'o> Json<'o> {
         self.node(&child.node())
     }
 
-    /// Writes an element of a list after its lead, which is then a comma.
+    /// Writes an element of a list after the text in `lead`, which becomes a comma.
     fn element(&mut self, lead: &mut &str, value: Child) -> io::Result<()> {
         self.put(lead)?;
         *lead = ",";

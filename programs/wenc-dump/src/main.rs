@@ -6,28 +6,28 @@ use std::io::{self, BufWriter, IsTerminal};
 use std::process::ExitCode;
 use wenc_dump::{NO_MEMORY, Streams, Terminal, colours_are_wanted, run};
 
-/// The bytes of stack for nested components and types, with room to spare. Frames that aren't
-/// optimized are larger.
+/// The number of bytes of stack that suffices for nested components and types. Frames of code that
+/// isn't optimized are larger.
 const STACK: usize = if cfg!(debug_assertions) { 0x28_0000 } else { 0xc_0000 };
 
-/// The other bytes of memory that the program allocates before it reads a file.
+/// An upper bound of the number of bytes that the program allocates before it reads a file.
 const START: usize = 0x4_0000;
 
-/// Grows the stack to its size, if there is memory for it. Otherwise, a file could take that
-/// memory, and a stack that can't grow aborts the program.
+/// Makes the stack as large as it will ever be. Returns whether there is memory for that: if a file
+/// took that memory, a stack that can't grow would abort the program.
 fn has_stack() -> bool {
-    let mut room = Vec::<u8>::new();
-    let is_there = room.try_reserve_exact(STACK + START).is_ok();
+    let mut memory = Vec::<u8>::new();
+    let is_there = memory.try_reserve_exact(STACK + START).is_ok();
     // keeps the compiler from removing the request
-    drop(black_box(room));
+    drop(black_box(memory));
     if is_there {
-        grow();
+        grow_stack();
     }
     is_there
 }
 
 #[inline(never)]
-fn grow() {
+fn grow_stack() {
     black_box([0_u8; STACK]);
 }
 

@@ -38,7 +38,8 @@ pub trait Report {
 #[derive(Clone, Copy)]
 pub struct Rest<'a> {
     pub bytes: &'a [u8],
-    /// Whether they are among those of an open part, or are those of many parts.
+    /// Whether they are reported with an open part, or aren't at all, since they are those of many
+    /// parts.
     pub are_reported: bool,
 }
 

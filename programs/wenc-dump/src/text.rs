@@ -16,8 +16,8 @@ use wenc::tree::UsedIndex;
 /// The maximum number of columns of a line that can be folded, unless another one is given.
 pub const COLUMNS: usize = 100;
 
-/// The maximum indentation in columns, so that each line has room for text, and the size of the
-/// output is linear in that of the file.
+/// The maximum indentation in columns: so each line has space for text, and the size of the output
+/// is linear in that of the file.
 const INDENTATION: usize = 40;
 
 /// The number of bytes in a line of bytes.
@@ -41,7 +41,7 @@ pub struct Text<'o> {
     pub(super) style: Style,
     /// The number of open parts.
     depth: usize,
-    /// The number of columns that are taken on the line.
+    /// The number of columns that are written on the line.
     pub(super) columns: usize,
     /// The number of columns after which writes fail.
     most: usize,

@@ -1,7 +1,7 @@
 //! A component's world as WIT.
 //!
-//! A component doesn't tell the name of its world, nor that of the world's package: they are
-//! `root` and `root:component` here. Of an interface that is imported it tells what is used.
+//! A component contains neither the name of its world nor that of the world's package: here they
+//! are `root` and `root:component`. Of an imported interface it contains what is used.
 
 mod names;
 mod types;
@@ -62,17 +62,17 @@ pub struct Wit<'s, 'a> {
     text: Buffer,
     /// The number of open braces.
     depth: usize,
-    /// What isn't written.
+    /// The parts that aren't written.
     pub unwritten: Vec<Unwritten>,
 }
 
-/// Where a type with a name comes from.
+/// Where a type with a name is defined.
 enum Origin<'s, 'a> {
-    /// Another interface, where it has this name.
+    /// In this other interface, under this name.
     Interface(&'a str, &'a str),
-    /// Another type of the same interface.
+    /// Under this other name in the same interface.
     Type(&'a str),
-    /// This is its own definition.
+    /// Here, by this definition.
     Own(Definition<'s, 'a>),
 }
 
@@ -141,7 +141,7 @@ impl<'s, 'a> Wit<'s, 'a> {
         self.line("}");
     }
 
-    /// Notes why something isn't written.
+    /// Writes a comment in place of a part that isn't written, and keeps why.
     fn note(&mut self, written: Written) {
         if let Err(unwritten) = written {
             self.line(format_args!("// {unwritten}"));
@@ -175,8 +175,8 @@ impl<'s, 'a> Wit<'s, 'a> {
         }
     }
 
-    /// Returns the interfaces by their packages, and keeps their names by their instances. One that
-    /// is imported and exported is the exported one, which is whole.
+    /// Returns the interfaces by their packages, and stores their names by their instances. Of an
+    /// interface that is both imported and exported it takes the export, which has all items.
     fn packages(&mut self) -> BTreeMap<String, BTreeMap<&'a str, Definition<'s, 'a>>> {
         let mut packages = BTreeMap::<_, BTreeMap<_, _>>::new();
         for (name, of) in imports(self.root).chain(exports(self.root)) {
@@ -212,7 +212,7 @@ impl<'s, 'a> Wit<'s, 'a> {
                 self.close();
                 written
             }
-            // with its resource
+            // written with its resource
             Some(Space::Funcs) if name.starts_with('[') && way == "import" => Ok(()),
             Some(Space::Funcs) => self.function(&format!("{way} "), name, of),
             Some(Space::Types) if way == "import" => self.named_type(None, name, of, functions),
@@ -264,7 +264,7 @@ impl<'s, 'a> Wit<'s, 'a> {
         Ok(())
     }
 
-    /// Returns where a type of an interface, or of the world, comes from.
+    /// Returns where a type of an interface, or of the world, is defined.
     fn origin(
         &self,
         instance: Option<Definition<'s, 'a>>,
@@ -399,7 +399,7 @@ impl<'s, 'a> Wit<'s, 'a> {
     }
 }
 
-/// Returns what an import of the component that was instantiated gets from its instance.
+/// Returns the argument that an instance passes for an import of its component.
 fn argument<'s, 'a>(
     instance: Option<Definition<'s, 'a>>,
     of: Definition<'s, 'a>,
@@ -414,7 +414,7 @@ fn type_of<'s, 'a>(of: Definition<'s, 'a>) -> Result<Definition<'s, 'a>, Unwritt
     of.ty()?.ok_or(Unwritten::Other(of.place(), "a function without a type"))
 }
 
-/// Returns the word in front of an asynchronous function.
+/// Returns the word before `func`, with a space, if the type is that of an asynchronous function.
 fn is_async(ty: Definition<'_, '_>) -> &'static str {
     match ty.meaning() {
         Meaning::Item(ItemView::Type(TypeView::Func { is_async: true, .. })) => "async ",

@@ -24,7 +24,7 @@ fn wenc<A: AsRef<OsStr>>(args: impl IntoIterator<Item = A>) -> Command {
 
 /// Runs the program with this input, which it may not read to the end.
 fn run(command: &mut Command, input: &[u8]) -> Output {
-    let mut child = command.spawn().expect("the program stands there");
+    let mut child = command.spawn().expect("the program is there");
     let mut stdin = child.stdin.take().expect("it is a pipe");
     thread::scope(|scope| {
         scope.spawn(move || drop(stdin.write_all(input)));

@@ -2,13 +2,13 @@
 
 use std::fmt::{self, Display};
 
-/// The words that stand for something else in WIT.
+/// The keywords of WIT.
 const KEYWORDS: &str = "\
     _ as async bool borrow char constructor enum error-context export f32 f64 flags from func \
     future import include interface list map option own package record resource result s16 s32 \
     s64 s8 static stream string tuple type u16 u32 u64 u8 use variant with world";
 
-/// A name, after `%` where it would be a keyword.
+/// A name, with `%` before it if it is a keyword.
 pub struct Id<'a>(pub &'a str);
 
 impl Display for Id<'_> {

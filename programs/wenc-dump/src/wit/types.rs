@@ -18,7 +18,7 @@ pub(super) fn name_of<'a>(of: Definition<'_, 'a>) -> Option<&'a str> {
     match of.meaning() {
         Meaning::Item(ItemView::Export { name, kind: ComponentExportKind::Type, .. })
         | Meaning::Declared { name, ty: ComponentTypeRef::Type(_) } => Some(name.name),
-        // the imports of a component that was instantiated have names that its linker chose
+        // a linker chose the names of what an instantiated component imports
         Meaning::Item(ItemView::Import { name, ty: ComponentTypeRef::Type(_) }) => {
             of.scope().outer().is_none().then_some(name.name)
         }
@@ -26,7 +26,7 @@ pub(super) fn name_of<'a>(of: Definition<'_, 'a>) -> Option<&'a str> {
     }
 }
 
-/// The text of types, as far as it is written.
+/// The text of types.
 #[derive(Default)]
 pub(super) struct Text {
     text: Buffer,

@@ -301,11 +301,11 @@ impl Write for Left {
 #[test]
 fn a_reader_that_leaves_ends_it_quietly() {
     for (options, len) in [(&[][..], FUNCTION_TEXT.len()), (&["--json"], 400)] {
-        for room in 0..len {
-            let mut out = Left(room);
+        for left in 0..len {
+            let mut out = Left(left);
             let arguments = [options, &["-"]].concat();
             let result = run_into(&mut out, &arguments, &component(FUNCTION), Terminal::default());
-            assert_eq!(result, (0, String::new()), "{room}");
+            assert_eq!(result, (0, String::new()), "{left}");
         }
     }
 }
@@ -316,7 +316,7 @@ fn a_closed_pipe_ends_it_quietly() {
     let path = corpus("wasm/33-many.wasm");
     let mut command = Command::new(PROGRAM);
     command.args([&path; 9]).stdout(Stdio::piped()).stderr(Stdio::piped());
-    let mut child = command.spawn().expect("the program stands there");
+    let mut child = command.spawn().expect("the program is there");
     let mut out = BufReader::new(child.stdout.take().expect("it is a pipe"));
     let mut line = String::new();
     out.read_line(&mut line).expect("it is printed");

@@ -92,17 +92,17 @@ fn worlds_are_those_of_the_corpus() {
     assert!(items > 400, "{items}");
 }
 
-/// What is printed of the component with these sections, within its world, and what is said of it.
-fn expect(sections: &[u8], world: &str, said: &str) {
+/// Checks what is printed within the world of the component with these sections, and the messages.
+fn expect(sections: &[u8], world: &str, messages: &str) {
     let (status, out, err) = dump(&["--wit"], &component(sections));
     let expected = format!("package root:component;\n\nworld root {{\n{world}}}\n");
-    let said: String = said.lines().map(|line| format!("-: {line}\n")).collect();
-    assert_eq!((&out, &err), (&expected, &said), "{sections:x?}");
-    assert_eq!(status, u8::from(!said.is_empty()));
+    let messages: String = messages.lines().map(|line| format!("-: {line}\n")).collect();
+    assert_eq!((&out, &err), (&expected, &messages), "{sections:x?}");
+    assert_eq!(status, u8::from(!messages.is_empty()));
 }
 
 #[test]
-fn what_is_no_world_is_told() {
+fn what_has_no_form_in_wit_is_reported() {
     expect(b"", "", "");
     expect(FUNCTION, "  import f: func();\n", "");
     // a core module, a value, and a type that is exported
@@ -116,24 +116,24 @@ fn what_is_no_world_is_told() {
     );
     // a function that takes a record, which has no name
     let record = b"\x07\x0d\x02\x72\x01\x01a\x79\x40\x01\x01r\0\x01\0\x0a\x06\x01\0\x01f\x01\x01";
-    let told = "no WIT: a type without a name at 0xb";
-    expect(record, &format!("  // {told}\n"), told);
+    let message = "no WIT: a type without a name at 0xb";
+    expect(record, &format!("  // {message}\n"), message);
     // a type that isn't a function's
     let other = b"\x07\x02\x01\x79\x0a\x06\x01\0\x01f\x01\0";
-    let told = "no WIT: a type that isn't a function's at 0xb";
-    expect(other, &format!("  // {told}\n"), told);
+    let message = "no WIT: a type that isn't a function's at 0xb";
+    expect(other, &format!("  // {message}\n"), message);
     // the first section can be read
     let cut = [FUNCTION, b"\x0a\x01\x01"].concat();
-    let told = "bad item 0 at 0x1a in the section at 0x17: the section ends where an import is \
+    let message = "bad item 0 at 0x1a in the section at 0x17: the section ends where an import is \
         expected";
-    expect(&cut, "  import f: func();\n", told);
+    expect(&cut, "  import f: func();\n", message);
     // a lifted function that may be function 0, after two that can't be read
     let lifted = b"\x07\x05\x01\x40\0\x01\0\x08\x03\x02\xff\xff\x08\x06\x01\0\0\0\0\0";
     let lifted = [&lifted[..], b"\x0b\x07\x01\0\x01f\x01\0\0"].concat();
-    let told = "no WIT: the func at 0x1f depends on what isn't read at 0x12";
+    let message = "no WIT: the func at 0x1f depends on what isn't read at 0x12";
     let fault = "bad item 0 at 0x12 in the section at 0xf: 0xff where a canonical function is \
         expected";
-    expect(&lifted, &format!("  // {told}\n"), &format!("{fault}\n{told}"));
+    expect(&lifted, &format!("  // {message}\n"), &format!("{fault}\n{message}"));
     // no component, of which nothing is printed
     let (status, out, err) = dump(&["--wit"], b"\0asm\x01\0\0\0");
     assert_eq!((status, &out[..]), (1, ""));
@@ -142,7 +142,7 @@ fn what_is_no_world_is_told() {
 
 /// Names that are words of WIT, and interfaces with and without a package.
 #[test]
-fn names_are_told_from_words() {
+fn names_that_are_keywords_are_marked() {
     let mut ty = InstanceType::new();
     ty.export("use", ComponentTypeRef::Type(TypeBounds::SubResource));
     let mut builder = ComponentBuilder::default();
@@ -200,7 +200,7 @@ fn chained(count: u32, each: fn(ComponentDefinedTypeEncoder<'_>, ComponentValTyp
 
 /// Types without names are written wherever they are used, up to a depth and a length.
 #[test]
-fn large_types_are_told() {
+fn large_types_are_reported() {
     let of_lists = |count| chained(count, |ty, before| ty.list(before));
     let (status, out, err) = dump(&["--wit"], &of_lists(99));
     let ty = ["list<".repeat(99), "u8".into(), ">".repeat(99)].concat();

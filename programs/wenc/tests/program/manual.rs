@@ -24,26 +24,26 @@ fn examples(page: &str) -> Vec<(String, String)> {
 }
 
 /// A folder of this test's own, for the files that the examples write.
-fn room(name: &str) -> PathBuf {
-    let room = Path::new(env!("CARGO_TARGET_TMPDIR")).join(name);
-    std::fs::create_dir_all(&room).expect("it is made");
-    room
+fn folder(name: &str) -> PathBuf {
+    let folder = Path::new(env!("CARGO_TARGET_TMPDIR")).join(name);
+    std::fs::create_dir_all(&folder).expect("it is made");
+    folder
 }
 
 /// Runs the examples of a program's page, of which there are `number`, with the program in `PATH`.
 pub fn run(name: &str, program: &str, number: usize) {
-    let room = room(name);
-    let link = room.join(name);
+    let folder = folder(name);
+    let link = folder.join(name);
     let _ = std::fs::remove_file(&link);
     std::os::unix::fs::symlink(program, link).expect("the program is linked");
     let page = Path::new(env!("CARGO_MANIFEST_DIR")).join(format!("../../docs/man/{name}.1"));
     let page = std::fs::read_to_string(page).expect("the page is there");
-    let path = format!("{}:/usr/bin:/bin", room.display());
+    let path = format!("{}:/usr/bin:/bin", folder.display());
     let examples = examples(&page);
     assert_eq!(examples.len(), number, "{name}");
     for (command, printed) in examples {
         let mut shell = Command::new("sh");
-        let shell = shell.args(["-c", &command]).env("PATH", &path).current_dir(&room);
+        let shell = shell.args(["-c", &command]).env("PATH", &path).current_dir(&folder);
         let output = shell.output().expect("the shell is there");
         assert_eq!(String::from_utf8_lossy(&output.stdout), printed, "{command}");
         assert!(output.status.success() && output.stderr.is_empty(), "{command}");
