@@ -4,7 +4,7 @@ use super::fault::Fault;
 use super::report::{Part, Report, Rest};
 use super::words;
 use std::ffi::OsStr;
-use std::io;
+use std::{io, mem};
 use wenc::tree::UsedIndex;
 
 /// A kind of sections, by its word, which components and core modules may share, or by its id.
@@ -54,29 +54,19 @@ pub struct Selected<'r> {
     kinds: &'r [Kind],
     /// The number of open parts.
     depth: usize,
-    /// The number of parts around the open section that is left out.
-    left_out: Option<usize>,
+    /// Whether the open section of the file is left out.
+    is_left_out: bool,
 }
 
 impl<'r> Selected<'r> {
     /// Creates a report of sections of these kinds.
     pub fn new(report: &'r mut dyn Report, kinds: &'r [Kind]) -> Self {
-        Self { report, kinds, depth: 0, left_out: None }
-    }
-
-    /// Returns whether a part is reported.
-    fn has(&self, part: &Part) -> bool {
-        match part {
-            Part::Section { id, word, .. } if self.depth == 1 && !self.kinds.is_empty() => {
-                self.kinds.iter().any(|kind| kind.has(*id, *word))
-            }
-            _ => true,
-        }
+        Self { report, kinds, depth: 0, is_left_out: false }
     }
 
     /// Passes a call on, unless the open section is left out.
     fn pass(&mut self, to: impl FnOnce(&mut dyn Report) -> io::Result<()>) -> io::Result<()> {
-        if self.left_out.is_none() { to(self.report) } else { Ok(()) }
+        if self.is_left_out { Ok(()) } else { to(self.report) }
     }
 }
 
@@ -86,8 +76,9 @@ impl Report for Selected<'_> {
     }
 
     fn open(&mut self, part: &Part) -> io::Result<()> {
-        if self.left_out.is_none() && !self.has(part) {
-            self.left_out = Some(self.depth);
+        if let (1, Part::Section { id, word, .. }) = (self.depth, part) {
+            let is_selected = self.kinds.iter().any(|kind| kind.has(*id, *word));
+            self.is_left_out = !self.kinds.is_empty() && !is_selected;
         }
         self.depth += 1;
         self.pass(|report| report.open(part))
@@ -107,7 +98,7 @@ impl Report for Selected<'_> {
 
     fn close(&mut self) -> io::Result<()> {
         self.depth -= 1;
-        if self.left_out.take_if(|depth| *depth == self.depth).is_some() {
+        if self.depth == 1 && mem::take(&mut self.is_left_out) {
             return Ok(());
         }
         self.pass(|report| report.close())
