@@ -66,7 +66,7 @@ impl From<ListFault> for Fault {
             | ListFault::TooDeep { place, unread, cause } => (place, unread, cause),
             _ => return Kind::NoMemory.into(),
         };
-        let place = unread.map_or(place, place_of);
+        let place = unread.map_or(place, |mut unread| *place_of(&mut unread));
         Self::new(Kind::List(fault), place, cause.map(Cause::Read))
     }
 }
@@ -90,10 +90,11 @@ impl Fault {
                 let (place, cause) = (at + place, cause.moved(at));
                 (ModuleFault::BadSection { place, cause }, place, Some(Cause::Read(cause)))
             }
-            ModuleFault::BadItem { unread, cause } => {
-                let (unread, cause) = (moved(unread, at), cause.map(|cause| cause.moved(at)));
-                let fault = ModuleFault::BadItem { unread, cause };
-                (fault, place_of(unread), cause.map(Cause::Read))
+            ModuleFault::BadItem { mut unread, cause } => {
+                let place = at + *place_of(&mut unread);
+                *place_of(&mut unread) = place;
+                let cause = cause.map(|cause| cause.moved(at));
+                (ModuleFault::BadItem { unread, cause }, place, cause.map(Cause::Read))
             }
             fault => (fault, at, cause),
         };
@@ -145,18 +146,9 @@ impl Fault {
 }
 
 /// Returns the byte offset of a part that can't be read.
-fn place_of(unread: Unread) -> usize {
+fn place_of(unread: &mut Unread) -> &mut usize {
     match unread {
         Unread::Count { place } | Unread::Item { place, .. } | Unread::Behind { place } => place,
-    }
-}
-
-/// Returns the part with `by` bytes added to its byte offset.
-fn moved(unread: Unread, by: usize) -> Unread {
-    match unread {
-        Unread::Count { place } => Unread::Count { place: place + by },
-        Unread::Item { number, place } => Unread::Item { number, place: place + by },
-        Unread::Behind { place } => Unread::Behind { place: place + by },
     }
 }
 
