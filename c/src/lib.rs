@@ -222,94 +222,71 @@ macro_rules! calls {
     ($(
         $name:ident($($argument:tt)*) $(-> $index:ident)? = |$session:ident| $body:expr;
     )*) => {
-        $($crate::call! { $name [$($index)?] $session $body, [] [] $($argument)*, })*
+        $($crate::call! { [$name [$($index)?] $session $body] [] [] $($argument)*, })*
     };
 }
 
-/// Defines one function. After its body come the parameters of C, the statements that read them,
-/// and the remaining arguments.
+/// Defines one function: its name, whether it has an index, the session and the body; the parameters
+/// of C so far; the statements that read them; and the remaining arguments.
 macro_rules! call {
-    ($f:ident [$index:ident] $s:ident $body:expr, [$($c:tt)*] [$($read:tt)*] $(,)?) => {
+    ([$f:ident [$($index:ident)?] $s:ident $body:expr] [$($c:tt)*] [$($read:tt)*] $(,)?) => {
         #[unsafe(no_mangle)]
         pub unsafe extern "C" fn $f(
             handle: *mut $crate::Handle,
             $($c)*
-            $index: *mut u32,
+            $($index: *mut u32,)?
         ) -> $crate::Status {
-            unsafe { $crate::change(handle, $index, |$s| { $($read)* $body }) }
+            // NULL for a call without an index.
+            let to = [$($index,)? core::ptr::null_mut()][0];
+            unsafe { $crate::change(handle, to, |$s| { $($read)* $body }) }
         }
     };
-    ($f:ident [] $s:ident $body:expr, [$($c:tt)*] [$($read:tt)*] $(,)?) => {
-        #[unsafe(no_mangle)]
-        pub unsafe extern "C" fn $f(
-            handle: *mut $crate::Handle,
-            $($c)*
-        ) -> $crate::Status {
-            unsafe { $crate::change(handle, core::ptr::null_mut(), |$s| { $($read)* $body }) }
-        }
-    };
-    ($f:ident $i:tt $s:ident $b:expr, [$($c:tt)*] [$($r:tt)*] $a:ident: name, $($rest:tt)*) => {
+    ([$f:ident $i:tt $s:ident $b:expr] [$($c:tt)*] [$($r:tt)*] $a:ident: name, $($rest:tt)*) => {
         $crate::call! {
-            $f $i $s $b,
-            [$($c)* $a: *const $crate::arguments::Text,]
-            [$($r)*
-                let $a = $crate::arguments::debug_name($a)?;
-                $s.take_name($a)?;
-            ]
-            $($rest)*
+            [$f $i $s $b] [$($c)* $a: *const $crate::arguments::Text,]
+            [$($r)* let $a = $crate::arguments::debug_name($a)?; $s.take_name($a)?;] $($rest)*
         }
     };
-    (
-        $f:ident $i:tt $s:ident $b:expr, [$($c:tt)*] [$($r:tt)*]
-        $a:ident: u32 => $of:path, $($rest:tt)*
-    ) => {
+    ($f:tt [$($c:tt)*] [$($r:tt)*] $a:ident: u32 => $of:path, $($rest:tt)*) => {
         $crate::call! {
-            $f $i $s $b, [$($c)* $a: u32,]
+            $f [$($c)* $a: u32,]
             [$($r)* let $a = $crate::arguments::known($crate::name_of!($a), $of($a))?;] $($rest)*
         }
     };
-    (
-        $f:ident $i:tt $s:ident $b:expr, [$($c:tt)*] [$($r:tt)*]
-        $a:ident[$n:ident, $index:ident] => $of:path, $($rest:tt)*
-    ) => {
+    ($f:tt [$($c:tt)*] [$($r:tt)*] $a:ident[$n:ident, $i:ident] => $of:path, $($rest:tt)*) => {
         $crate::call! {
-            $f $i $s $b, [$($c)* $n: u32, $index: u32,]
-            [$($r)*
-                let $a = $crate::arguments::known($crate::name_of!($n), $of($n, $index))?;
-            ] $($rest)*
+            $f [$($c)* $n: u32, $i: u32,]
+            [$($r)* let $a = $crate::arguments::known($crate::name_of!($n), $of($n, $i))?;]
+            $($rest)*
         }
     };
-    (
-        $f:ident $i:tt $s:ident $b:expr, [$($c:tt)*] [$($r:tt)*]
-        $a:ident[$l:ident]: text, $($rest:tt)*
-    ) => {
+    ($f:tt [$($c:tt)*] [$($r:tt)*] $a:ident[$l:ident]: text, $($rest:tt)*) => {
         $crate::call! {
-            $f $i $s $b, [$($c)* $a: *const u8, $l: usize,]
+            $f [$($c)* $a: *const u8, $l: usize,]
             [$($r)* let $a = $crate::arguments::text($crate::name_of!($a), $a, $l)?;] $($rest)*
         }
     };
     (
-        $f:ident $i:tt $s:ident $b:expr, [$($c:tt)*] [$($r:tt)*]
+        $f:tt [$($c:tt)*] [$($r:tt)*]
         $a:ident[$l:ident]: $t:ident $(=> $read:ident $of:path)?, $($rest:tt)*
     ) => {
         $crate::call! {
-            $f $i $s $b, [$($c)* $a: *const $t, $l: usize,]
+            $f [$($c)* $a: *const $t, $l: usize,]
             [$($r)*
                 let $a = $crate::arguments::counted($crate::name_of!($a), $a, $l)?;
                 $(let $a = $crate::arguments::$read($crate::name_of!($a), $a, $of)?;)?
             ] $($rest)*
         }
     };
-    ($f:ident $i:tt $s:ident $b:expr, [$($c:tt)*] [$($r:tt)*] &$a:ident: $t:ty, $($rest:tt)*) => {
+    ($f:tt [$($c:tt)*] [$($r:tt)*] &$a:ident: $t:ty, $($rest:tt)*) => {
         $crate::call! {
-            $f $i $s $b, [$($c)* $a: *const $t,]
-            [$($r)*
-                let $a = $a.as_ref().ok_or($crate::CallError::bad($crate::name_of!($a)))?;
-            ] $($rest)*
+            $f [$($c)* $a: *const $t,]
+            [$($r)* let $a = $crate::arguments::known($crate::name_of!($a), $a.as_ref())?;]
+            $($rest)*
         }
     };
-    ($f:ident $i:tt $s:ident $b:expr, [$($c:tt)*] $r:tt $a:ident: $t:ty, $($rest:tt)*) => {
-        $crate::call! { $f $i $s $b, [$($c)* $a: $t,] $r $($rest)* }
+    ($f:tt [$($c:tt)*] $r:tt $a:ident: $t:ty, $($rest:tt)*) => {
+        $crate::call! { $f [$($c)* $a: $t,] $r $($rest)* }
     };
 }
 
