@@ -1,7 +1,7 @@
 //! Indices in types within types, and those of references in the core: what the table of calls
 //! doesn't have.
 
-use crate::{Seen, expect, here, name, text};
+use super::{Seen, expect, here, name, text};
 use wenc::tree::{
     AliasTree, CanonTree, ComponentDecl, CoreEntityType, CoreHeapType, CoreRefType, CoreTypeTree,
     CoreValType, InstanceDecl, ItemTree, ModuleDecl, Scope, Space, TypeTree,

@@ -7,6 +7,7 @@ mod check;
 mod completions;
 mod corpus;
 mod custom;
+mod debug_names;
 mod faults;
 mod fuzz;
 mod json;

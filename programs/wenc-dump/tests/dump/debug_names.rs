@@ -1,20 +1,20 @@
 //! The debug names that follow the indices of an item, in each form that contains an index.
 
-#[path = "../../../tests/common/hex.rs"]
+#[path = "../../../../tests/common/hex.rs"]
 mod hex;
-#[path = "../../../tests/reading/scopes.rs"]
+#[path = "../../../../tests/reading/scopes.rs"]
 mod scopes;
 #[allow(dead_code, reason = "some is for others")]
-#[path = "../../../tests/common/sections.rs"]
+#[path = "../../../../tests/common/sections.rs"]
 mod sections;
 
+use crate::dump;
 use hex::bytes;
 use wenc::tree::{Command, ItemTree, NameTree, Scope, Space, build};
 use wenc::{
     Component, ComponentNameSection, ComponentSection, ComponentSectionId, DebugNames, RawSection,
     list,
 };
-use wenc_dump::{Streams, Terminal, run as dump};
 
 /// A space, how a scope is seen from the item, and an index.
 type Seen = (Space, Scope, u32);
@@ -57,13 +57,8 @@ fn printed(item: &ItemTree, indices: &[Seen]) -> String {
     let mut outer = Component::new();
     let id = ComponentSectionId::Component.into();
     outer.section(&RawSection { id, data: &inner }).section(&names_section(indices, 1));
-    let outer = outer.finish();
-    let (mut out, mut err) = (Vec::new(), Vec::new());
-    let mut streams = Streams { input: &mut &outer[..], out: &mut out, err: &mut err };
-    let arguments = ["wenc-dump", "-"].map(Into::into);
-    let status = dump(arguments.into_iter(), Terminal::default(), &mut streams);
+    let (status, text, _) = dump(&[], &outer.finish());
     assert_eq!(status, 0);
-    let text = String::from_utf8(out).expect("it is text");
     let (_, item) = text.split_once("        0x").expect("the item is there");
     // the sections of names, which are printed too, come after it
     let item = item.split(" custom section, ").next().unwrap_or_default();
