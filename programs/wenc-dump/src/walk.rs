@@ -96,7 +96,7 @@ impl<'f> Walk<'f, '_> {
     }
 
     /// Reports that nothing more is read of the innermost open part, which ends at this byte
-    /// offset, and whether its bytes were reported, or are those of many parts.
+    /// offset. `are_reported` is that of [`Rest`].
     pub(super) fn unread(
         &mut self,
         fault: Fault,
@@ -208,23 +208,21 @@ impl<'f> Walk<'f, '_> {
         let word = words::section(id);
         self.report.open(&Part::Section { range, id, word, count, core: None })?;
         for item in section.items() {
-            let fault = match item {
-                Ok((range, ItemView::Component(_))) => {
-                    self.nested(range, section)?;
-                    continue;
-                }
-                Ok((range, item)) => {
-                    self.item(range, &item)?;
-                    continue;
-                }
+            match item {
+                Ok((range, ItemView::Component(_))) => self.nested(range, section)?,
+                Ok((range, item)) => self.item(range, &item)?,
                 Err(ListFault::NoMemory) => return Err(io::ErrorKind::OutOfMemory.into()),
-                Err(ListFault::BadSection { place, cause }) => {
-                    Fault::new(Kind::NoName, place, cause.map(Cause::Read))
+                Err(fault) => {
+                    let fault = match fault {
+                        ListFault::BadSection { place, cause } => {
+                            Fault::new(Kind::NoName, place, cause.map(Cause::Read))
+                        }
+                        fault => fault.into(),
+                    };
+                    self.note(id, &fault);
+                    self.unread(fault, section.range().end, false)?;
                 }
-                Err(fault) => fault.into(),
-            };
-            self.note(id, &fault);
-            self.unread(fault, section.range().end, false)?;
+            }
         }
         self.report.close()
     }
