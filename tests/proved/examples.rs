@@ -177,7 +177,7 @@ fn script() -> Result<Vec<u8>, Fault> {
 #[test]
 fn runs() {
     let import = commands::command(Global).unwrap();
-    let (index, bytes) = commands::running(Global, import).unwrap();
+    let (index, bytes) = commands::running(Global, &import).unwrap();
     assert!(index == Some(0) && bytes.as_slice() == RUN);
     let (bytes, refused) = commands::run(Global).unwrap();
     assert!(!refused && bytes.as_slice() == RUN);

@@ -381,7 +381,7 @@ pub fn build<A: Allocator + Copy, B: Allocator>(
 ///
 /// ```
 /// let mut running = Running::new(alloc)?;
-/// let index = running.run(&import)?;
+/// let index = running.run(command)?;
 /// let bytes = running.finish()?;
 /// ```
 #[derive(Drop)]

@@ -33,13 +33,13 @@ pub fn run(alloc: Global) -> Result<(Vec<u8>, bool), Fault> {
 }
 
 /// `Running`.
-pub fn running(alloc: Global, import: Command) -> Result<(Option<u32>, Vec<u8>), Fault>
+pub fn running(alloc: Global, command: &Command) -> Result<(Option<u32>, Vec<u8>), Fault>
     ensures { IfOk result (λ x. (es : List Entry)
-        × Ran (command_view import ∷ []) (Ok x.0 ∷ []) es
+        × Ran (command_view command.now ∷ []) (Ok x.0 ∷ []) es
         × (x.1.items ≡ whole (items es))) }
 {
     let mut running = Running::new(alloc)?;
-    let index = running.run(&import)?;
+    let index = running.run(command)?;
     let bytes = running.finish()?;
     Ok((index, bytes))
 }
