@@ -17,8 +17,9 @@
 //! - *adds*: the names that are in scope by default, before a file's first item; the derives that
 //!   users of Rust expect of a type ([`known::TREES`], [`known::DERIVED_TOO`]); `Display` and
 //!   `Error` after an enum that derives `Error`; `pub` to `main`; `pub(crate)` to the functions in
-//!   [`WIDENED`]; `#[inline]` to the functions in [`INLINED`]; conditions to the items that exist
-//!   only with a feature ([`with_conditions`]);
+//!   [`WIDENED`]; `#[inline]` to the functions in [`INLINED`], but `#[inline(never)]` to what copies
+//!   the trees in [`APART`]; conditions to the items that exist only with a feature
+//!   ([`with_conditions`]);
 //! - *refuses*: everything else that it doesn't know, such as a module with a body, and a `Clone`
 //!   or a `clone` that the source defines itself. No crate is better than one that does something
 //!   else than was proved.
@@ -41,7 +42,9 @@ mod lexer;
 
 #[allow(unused_imports, reason = "the build script has crates of features")]
 pub use conditions::{TREE, WALK, is_owned};
-use known::{ALLOCATING, HANDED, INLINED, KEYWORDS, MAKING, NARROWED, OWNED, PLAIN, WIDENED};
+use known::{
+    ALLOCATING, APART, HANDED, INLINED, KEYWORDS, MAKING, NARROWED, OWNED, PLAIN, WIDENED,
+};
 use lexer::{Kind, Token, tokens};
 use std::borrow::Cow;
 
@@ -187,7 +190,10 @@ impl<'a> Eraser<'a> {
             "Drop" => self.bound(i)?,
             "fn" if self.at(i + 1) == "main" => self.put(i, "pub fn"),
             "fn" if self.is_widened(i) => self.put(i, "pub(crate) fn"),
-            word @ ("fn" | "pub") if self.is_inlined(i) => self.put(i, format!("#[inline] {word}")),
+            word @ ("fn" | "pub") if self.is_inlined(i) => {
+                let attribute = if self.is_apart(i) { "#[inline(never)]" } else { "#[inline]" };
+                self.put(i, format!("{attribute} {word}"));
+            }
             "mod" if self.is_taken(self.at(i + 1)) => {
                 return Err((self.line(i), "a module with the name of a crate"));
             }
@@ -274,6 +280,13 @@ impl<'a> Eraser<'a> {
             self.at(j) == "impl" && !is_tree
         };
         INLINED.contains(&name) && ["{", "}", ";", ""].contains(&last) && block.is_none_or(is_kept)
+    }
+
+    /// Returns whether a function begins here that copies a tree out of line.
+    fn is_apart(&self, i: usize) -> bool {
+        let head = (0..i).rev().take_while(|j| !["impl", "trait"].contains(&self.at(*j)));
+        let is_tree = |j| self.before(j, 1) == "for" && APART.contains(&self.at(j));
+        self.at(i + 1) == "tree_of" && head.into_iter().any(is_tree)
     }
 
     /// Returns the name of the type whose members are in an `impl` or a `struct`, or of the trait.

@@ -44,6 +44,10 @@ pub const INLINED: [&str; 29] = [
     "type_resource",
 ];
 
+/// Trees that are copied out of line: of the copies of items, those that few items need, and that
+/// take long to compile into each function that copies an item.
+pub const APART: [&str; 4] = ["CanonTree", "CoreInstanceTree", "CoreTypeTree", "InstanceTree"];
+
 /// Macros that take an allocator after `in`, and that the shim defines.
 pub const HANDED: [&str; 2] = ["format", "vec"];
 

@@ -17,7 +17,7 @@ mod proof;
 mod reader;
 
 use allocators::LEFT_OUT;
-use erase::known::{DERIVED_TOO, NARROWED, PARTIAL, TREES, WIDENED};
+use erase::known::{APART, DERIVED_TOO, NARROWED, PARTIAL, TREES, WIDENED};
 use lexer::{Token, lex};
 use reader::{WAYS, compare, has_conditions, read};
 use std::collections::BTreeMap;
@@ -92,6 +92,7 @@ fn erased_sources_are_the_sources() {
     assert_eq!(counts["derive of more"], DERIVED_TOO.len());
     assert_eq!(counts["member that stays in this crate"], NARROWED.len());
     assert_eq!(counts["function that the facade calls"], WIDENED.len());
+    assert_eq!(counts["tree that is copied out of line"], APART.len());
 }
 
 /// Sources whose words mean something else in Rust where they stay or get another name, and what

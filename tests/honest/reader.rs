@@ -3,12 +3,12 @@
 
 use super::allocators;
 use super::erase::TREE;
-use super::erase::known::{DERIVED_TOO, INNER, NARROWED, OWNED, PARTIAL, TREES, WIDENED};
+use super::erase::known::{APART, DERIVED_TOO, INNER, NARROWED, OWNED, PARTIAL, TREES, WIDENED};
 use super::lexer::{Token, lex};
 use std::collections::BTreeMap;
 
 /// The ways, each of which some source takes.
-pub const WAYS: [&str; 30] = [
+pub const WAYS: [&str; 31] = [
     "kept",
     "prelude",
     "attribute of the prover left out",
@@ -36,6 +36,7 @@ pub const WAYS: [&str; 30] = [
     "main is pub",
     "function that the facade calls",
     "function that is inlined",
+    "tree that is copied out of line",
     "module of a feature",
     "item of a feature",
     "import of a feature",
@@ -129,8 +130,9 @@ pub fn compare(
         }
         let is_inlined = rest.len() > 2 && rest[0].text == "#" && rest[2].text == "inline";
         if is_inlined && ["fn", "pub"].contains(&&*first.text) {
-            take("function that is inlined", line, "#[inline]", &mut rest)?;
-            *counts.entry("function that is inlined").or_default() += 1;
+            let (way, attribute) = source.inlined();
+            take(way, line, attribute, &mut rest)?;
+            *counts.entry(way).or_default() += 1;
         }
         let Step { way, old, new } = source.step();
         take(way, line, &new, &mut rest).map_err(|why| format!("{}: {why}", first.line))?;
@@ -340,6 +342,18 @@ impl<'a> Source<'a> {
         }
         let found = self.parted().or_else(|| self.attribute()).or_else(|| self.name());
         found.unwrap_or_else(|| step("kept", 1, self.text(0)))
+    }
+
+    /// What the function that begins here gets if it is inlined: a copy of some trees never is.
+    fn inlined(&self) -> (&'static str, &'static str) {
+        let (before, _) = self.tokens.split_at(self.at);
+        let head = before.rsplit(|token| token.text == "impl").next().unwrap_or_default();
+        let is_tree = |pair: &[Token]| pair[0].text == "for" && APART.contains(&&*pair[1].text);
+        if self.stands("fn tree_of") && head.windows(2).any(is_tree) {
+            ("tree that is copied out of line", "#[inline(never)]")
+        } else {
+            ("function that is inlined", "#[inline]")
+        }
     }
 
     fn attribute(&mut self) -> Option<Step> {
