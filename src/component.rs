@@ -217,31 +217,9 @@ crate::encode::encode! {
     ComponentSectionId, value => *value;
 }
 
-impl ComponentSectionId {
-    /// All ids, in ascending order.
-    pub const ALL: [Self; 12] = [
-        Self::CoreCustom,
-        Self::CoreModule,
-        Self::CoreInstance,
-        Self::CoreType,
-        Self::Component,
-        Self::Instance,
-        Self::Alias,
-        Self::Type,
-        Self::CanonicalFunction,
-        Self::Start,
-        Self::Import,
-        Self::Export,
-    ];
-}
-
-impl TryFrom<u8> for ComponentSectionId {
-    type Error = UnknownSectionId;
-
-    fn try_from(id: u8) -> Result<Self, UnknownSectionId> {
-        let known = Self::ALL.iter().find(|known| u8::from(**known) == id);
-        known.copied().ok_or(UnknownSectionId(id))
-    }
+crate::core::section_ids! {
+    ComponentSectionId, 12: CoreCustom, CoreModule, CoreInstance, CoreType, Component, Instance,
+    Alias, Type, CanonicalFunction, Start, Import, Export
 }
 
 /// The error of converting a `u8` that isn't a section's id to a [`ComponentSectionId`] or a

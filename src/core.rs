@@ -25,7 +25,6 @@ pub use tables::TableType;
 pub use tags::{TagKind, TagType};
 pub use types::*;
 
-use crate::UnknownSectionId;
 use crate::component::built;
 use crate::encode::{Encode, Foreign, Own, encode};
 use crate::error::{Error, or_panic};
@@ -127,33 +126,31 @@ pub enum SectionId {
     Tag,
 }
 
-impl SectionId {
-    /// All ids, in ascending order.
-    pub const ALL: [Self; 14] = [
-        Self::Custom,
-        Self::Type,
-        Self::Import,
-        Self::Function,
-        Self::Table,
-        Self::Memory,
-        Self::Global,
-        Self::Export,
-        Self::Start,
-        Self::Element,
-        Self::Code,
-        Self::Data,
-        Self::DataCount,
-        Self::Tag,
-    ];
+/// Implements what the ids of sections share: the array of all of them, and the conversion of a
+/// number.
+macro_rules! section_ids {
+    ($name:ident, $len:literal: $($id:ident),+) => {
+        impl $name {
+            /// All ids, in ascending order.
+            pub const ALL: [Self; $len] = [$(Self::$id),+];
+        }
+
+        impl TryFrom<u8> for $name {
+            type Error = $crate::UnknownSectionId;
+
+            fn try_from(id: u8) -> Result<Self, $crate::UnknownSectionId> {
+                let known = Self::ALL.iter().find(|known| u8::from(**known) == id);
+                known.copied().ok_or($crate::UnknownSectionId(id))
+            }
+        }
+    };
 }
 
-impl TryFrom<u8> for SectionId {
-    type Error = UnknownSectionId;
+pub(crate) use section_ids;
 
-    fn try_from(id: u8) -> Result<Self, UnknownSectionId> {
-        let known = Self::ALL.iter().find(|known| u8::from(**known) == id);
-        known.copied().ok_or(UnknownSectionId(id))
-    }
+section_ids! {
+    SectionId, 14: Custom, Type, Import, Function, Table, Memory, Global, Export, Start, Element,
+    Code, Data, DataCount, Tag
 }
 
 impl From<SectionId> for u8 {

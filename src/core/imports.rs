@@ -37,26 +37,20 @@ pub enum EntityType {
     FunctionExact(u32),
 }
 
-impl From<TableType> for EntityType {
-    fn from(ty: TableType) -> Self {
-        Self::Table(ty)
-    }
+macro_rules! entities {
+    ($($variant:ident of $ty:ident;)*) => {
+        $(impl From<$ty> for EntityType {
+            #[inline]
+            fn from(ty: $ty) -> Self {
+                Self::$variant(ty)
+            }
+        })*
+    };
 }
 
-impl From<MemoryType> for EntityType {
-    fn from(ty: MemoryType) -> Self {
-        Self::Memory(ty)
-    }
-}
-
-impl From<GlobalType> for EntityType {
-    fn from(ty: GlobalType) -> Self {
-        Self::Global(ty)
-    }
-}
-
-impl From<TagType> for EntityType {
-    fn from(ty: TagType) -> Self {
-        Self::Tag(ty)
-    }
+entities! {
+    Table of TableType;
+    Memory of MemoryType;
+    Global of GlobalType;
+    Tag of TagType;
 }
