@@ -191,36 +191,42 @@ impl<'a> Reader<'a> {
         }
         match meaning {
             Meaning::Item(ItemView::Instance(InstanceView::Instantiate { args, .. })) => {
-                let args = args.map(|(name, kind, index)| Meaning::Argument { name, kind, index });
-                self.list(place, meaning, args)
+                let argument = |(name, kind, index)| Meaning::Argument { name, kind, index };
+                let mut args = args.map(argument);
+                self.list(place, meaning, &mut || args.next())
             }
             Meaning::Item(ItemView::Instance(InstanceView::Exports(exports))) => {
                 let export = |(name, kind, index)| ItemView::Export { name, kind, index, ty: None };
-                self.list(place, meaning, exports.map(export).map(Meaning::Item))
+                let mut exports = exports.map(export).map(Meaning::Item);
+                self.list(place, meaning, &mut || exports.next())
             }
             Meaning::Item(ItemView::CoreInstance(CoreInstanceView::Instantiate {
                 args, ..
             })) => {
-                let args = args.map(|(name, argument)| Meaning::CoreArgument { name, argument });
-                self.list(place, meaning, args)
+                let argument = |(name, argument)| Meaning::CoreArgument { name, argument };
+                let mut args = args.map(argument);
+                self.list(place, meaning, &mut || args.next())
             }
             Meaning::Item(ItemView::CoreInstance(CoreInstanceView::Exports(exports))) => {
                 let export = |(name, kind, index)| Meaning::CoreExport { name, kind, index };
-                self.list(place, meaning, exports.map(export))
+                let mut exports = exports.map(export);
+                self.list(place, meaning, &mut || exports.next())
             }
             _ => self.define(place, meaning, NONE),
         }
     }
 
-    /// Adds an instance with this list.
+    /// Adds an instance with the list whose members the function returns.
     fn list(
         &mut self,
         place: usize,
         instance: Meaning<'a>,
-        mut list: impl Iterator<Item = Meaning<'a>>,
+        next: &mut dyn FnMut() -> Option<Meaning<'a>>,
     ) -> Result<(), ListFault> {
         self.enter(place, instance)?;
-        list.try_for_each(|member| self.define(place, member, NONE))?;
+        while let Some(member) = next() {
+            self.define(place, member, NONE)?;
+        }
         self.leave_and_define()
     }
 
