@@ -184,6 +184,7 @@ impl<'a> Iterator for CoreItems<'a> {
         next
     }
 
+    #[inline]
     fn size_hint(&self) -> (usize, Option<usize>) {
         let left = self.kind.map_or(Ok(0), |_| self.left).map_or(1, |left| left as usize);
         // after the last one there may be bytes, which are an error

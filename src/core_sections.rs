@@ -134,6 +134,7 @@ impl<'a> Iterator for CoreSections<'a> {
         Some(first.map(|(section, _)| section).map_err(fault))
     }
 
+    #[inline]
     fn size_hint(&self) -> (usize, Option<usize>) {
         parts_in(self.rest.len())
     }

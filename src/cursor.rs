@@ -278,6 +278,7 @@ impl<'a> Sections<'a> {
 }
 
 impl fmt::Debug for Sections<'_> {
+    #[inline]
     fn fmt(&self, f: &mut fmt::Formatter<'_>) -> fmt::Result {
         f.debug_struct("Sections").field("offset", &self.offset()).finish_non_exhaustive()
     }
@@ -297,6 +298,7 @@ impl<T, E, I: Iterator<Item = Result<T, E>>> Iterator for UpToFault<I> {
         next
     }
 
+    #[inline]
     fn size_hint(&self) -> (usize, Option<usize>) {
         let hint = self.0.as_ref().map_or((0, Some(0)), Iterator::size_hint);
         (hint.0.min(1), hint.1)
@@ -330,6 +332,7 @@ impl<'a> Iterator for Sections<'a> {
         }
     }
 
+    #[inline]
     fn size_hint(&self) -> (usize, Option<usize>) {
         parts_in(self.left.map_or(0, |left| left.rest.len()))
     }
@@ -450,6 +453,7 @@ impl<'a> SectionReader<'a> {
 }
 
 impl fmt::Debug for SectionReader<'_> {
+    #[inline]
     fn fmt(&self, f: &mut fmt::Formatter<'_>) -> fmt::Result {
         let mut shown = f.debug_struct("SectionReader");
         shown.field("id", &self.id()).field("range", &self.range()).finish_non_exhaustive()

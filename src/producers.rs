@@ -89,6 +89,7 @@ impl<'a> Iterator for ProducersReader<'a> {
         }
     }
 
+    #[inline]
     fn size_hint(&self) -> (usize, Option<usize>) {
         let rest = self.parts.as_ref().map(|parts| parts.as_ref().map_or(0, |of| of.rest.len()));
         // 32 bits: half of a length.
@@ -99,6 +100,7 @@ impl<'a> Iterator for ProducersReader<'a> {
 impl FusedIterator for ProducersReader<'_> {}
 
 impl fmt::Debug for ProducersReader<'_> {
+    #[inline]
     fn fmt(&self, f: &mut fmt::Formatter<'_>) -> fmt::Result {
         f.debug_struct("ProducersReader").field("field", &self.field).finish_non_exhaustive()
     }

@@ -225,6 +225,7 @@ impl<'a> Entry<'a> {
 }
 
 impl fmt::Debug for Definitions<'_> {
+    #[inline]
     fn fmt(&self, f: &mut fmt::Formatter<'_>) -> fmt::Result {
         f.debug_struct("Definitions").field("len", &self.entries.len()).finish_non_exhaustive()
     }
@@ -300,6 +301,7 @@ impl<'s, 'a> Scope<'s, 'a> {
 }
 
 impl fmt::Debug for Scope<'_, '_> {
+    #[inline]
     fn fmt(&self, f: &mut fmt::Formatter<'_>) -> fmt::Result {
         f.debug_struct("Scope").field("place", &self.place()).finish_non_exhaustive()
     }

@@ -114,6 +114,7 @@ impl<'a> Iterator for Items<'a> {
         }
     }
 
+    #[inline]
     fn size_hint(&self) -> (usize, Option<usize>) {
         let (left, rest) = self.left.map_or((0, 0), |of| (of.left as usize, of.rest.len()));
         // after the last one there may be bytes, which are an error
@@ -125,6 +126,7 @@ impl<'a> Iterator for Items<'a> {
 impl FusedIterator for Items<'_> {}
 
 impl fmt::Debug for Items<'_> {
+    #[inline]
     fn fmt(&self, f: &mut fmt::Formatter<'_>) -> fmt::Result {
         let offset = self.left().map(|(range, _)| range.start);
         f.debug_struct("Items").field("offset", &offset).finish_non_exhaustive()

@@ -104,6 +104,7 @@ impl<'a> Iterator for NestedSections<'a> {
         next.transpose()
     }
 
+    #[inline]
     fn size_hint(&self) -> (usize, Option<usize>) {
         let last = self.last.map(|section| section.range().start);
         let left = last.or(self.innermost.offset()).map(|at| self.innermost.bytes.len() - at);

@@ -143,6 +143,7 @@ impl<'a> Iterator for NamesReader<'a> {
         }
     }
 
+    #[inline]
     fn size_hint(&self) -> (usize, Option<usize>) {
         (0, parts_in(self.rest.map_or(0, <[u8]>::len)).1)
     }

@@ -129,6 +129,7 @@ impl<'s, 'a> Definition<'s, 'a> {
 }
 
 impl fmt::Debug for Definition<'_, '_> {
+    #[inline]
     fn fmt(&self, f: &mut fmt::Formatter<'_>) -> fmt::Result {
         let mut shown = f.debug_struct("Definition");
         shown.field("place", &self.place()).field("space", &self.space());

@@ -51,6 +51,7 @@ impl Iterator for Trees<'_> {
         Some(self.owned(item))
     }
 
+    #[inline]
     fn size_hint(&self) -> (usize, Option<usize>) {
         self.0.size_hint()
     }
