@@ -14,56 +14,45 @@ pub const STRING: Val = primitive(PrimitiveValType::String);
 
 /// What types of components and of instances have in common.
 pub trait Declares {
-    fn types(&self) -> u32;
-    fn next(&mut self) -> ComponentTypeEncoder<'_>;
-    fn exported(&mut self, name: &str, ty: ComponentTypeRef);
-    fn aliased(&mut self, alias: Alias<'_>);
-
     /// A type of values.
-    fn defined(&mut self, write: impl FnOnce(ComponentDefinedTypeEncoder<'_>)) -> Val {
-        let index = self.types();
-        write(self.next().defined_type());
-        Val::Type(index)
-    }
+    fn defined(&mut self, write: impl FnOnce(ComponentDefinedTypeEncoder<'_>)) -> Val;
 
     /// A type of functions.
-    fn func(&mut self, is_async: bool, params: &[(&str, Val)], result: Option<Val>) -> u32 {
-        let index = self.types();
-        let mut encoder = self.next().function();
-        encoder.async_(is_async).params(params.iter().copied()).result(result);
-        index
-    }
+    fn func(&mut self, is_async: bool, params: &[(&str, Val)], result: Option<Val>) -> u32;
+
+    /// An exported function of this type.
+    fn export_of(&mut self, name: &str, ty: u32);
 
     /// A function that is exported.
     fn export_func(&mut self, name: &str, params: &[(&str, Val)], result: Option<Val>) {
         let ty = self.func(false, params, result);
-        self.exported(name, ComponentTypeRef::Func(ty));
+        self.export_of(name, ty);
     }
 
     /// An asynchronous function that is exported.
     fn export_async(&mut self, name: &str, params: &[(&str, Val)], result: Option<Val>) {
         let ty = self.func(true, params, result);
-        self.exported(name, ComponentTypeRef::Func(ty));
+        self.export_of(name, ty);
     }
 }
 
 macro_rules! declares {
     ($($name:ident)*) => {
         $(impl Declares for $name {
-            fn types(&self) -> u32 {
-                self.type_count()
+            fn defined(&mut self, write: impl FnOnce(ComponentDefinedTypeEncoder<'_>)) -> Val {
+                let (index, ty) = self.type_defined();
+                write(ty);
+                Val::Type(index)
             }
 
-            fn next(&mut self) -> ComponentTypeEncoder<'_> {
-                self.ty()
+            fn func(&mut self, is_async: bool, params: &[(&str, Val)], result: Option<Val>) -> u32 {
+                let (index, mut ty) = self.type_function();
+                ty.async_(is_async).params(params.iter().copied()).result(result);
+                index
             }
 
-            fn exported(&mut self, name: &str, ty: ComponentTypeRef) {
-                self.export(name, ty);
-            }
-
-            fn aliased(&mut self, alias: Alias<'_>) {
-                self.alias(alias);
+            fn export_of(&mut self, name: &str, ty: u32) {
+                self.export(name, ComponentTypeRef::Func(ty));
             }
         })*
     };
@@ -71,26 +60,36 @@ macro_rules! declares {
 
 declares! { ComponentType InstanceType }
 
+/// The bound that a type is this one.
+pub fn equal(ty: Val) -> TypeBounds {
+    let Val::Type(ty) = ty else { panic!("a type with an index") };
+    TypeBounds::Eq(ty)
+}
+
 /// A type that an interface exports under a name.
 pub fn named(of: &mut InstanceType, name: &str, ty: Val) -> Val {
-    let Val::Type(ty) = ty else { panic!("a type with an index") };
-    let index = of.type_count();
-    of.export(name, ComponentTypeRef::Type(TypeBounds::Eq(ty)));
-    Val::Type(index)
+    Val::Type(of.export_type(name, equal(ty)))
+}
+
+/// A type of values that an interface exports under a name.
+pub fn named_type(
+    of: &mut InstanceType,
+    name: &str,
+    write: impl FnOnce(ComponentDefinedTypeEncoder<'_>),
+) -> Val {
+    let ty = of.defined(write);
+    named(of, name, ty)
 }
 
 /// A resource of an interface.
 pub fn resource(of: &mut InstanceType, name: &str) -> u32 {
-    let index = of.type_count();
-    of.export(name, ComponentTypeRef::Type(TypeBounds::SubResource));
-    index
+    of.export_type(name, TypeBounds::SubResource)
 }
 
 /// A type of the world around an interface, under a name.
 pub fn used(of: &mut InstanceType, outer: u32, name: &str) -> Val {
-    let index = of.type_count();
-    of.alias(Alias::Outer { kind: ComponentOuterAliasKind::Type, count: 1, index: outer });
-    named(of, name, Val::Type(index))
+    let ty = of.alias_outer_type(1, outer);
+    named(of, name, Val::Type(ty))
 }
 
 /// An interface of a world, to be imported or exported.
@@ -103,13 +102,6 @@ pub fn interface(
     let index = of.type_count();
     of.ty().instance(&ty);
     ComponentTypeRef::Instance(index)
-}
-
-/// A type that an interface of a world exports.
-pub fn taken(of: &mut ComponentType, instance: u32, name: &str) -> u32 {
-    let index = of.type_count();
-    of.aliased(Alias::InstanceExport { instance, kind: ComponentExportKind::Type, name });
-    index
 }
 
 /// A function that a world imports.

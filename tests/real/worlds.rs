@@ -82,10 +82,7 @@ const U64: Val = primitive(PrimitiveValType::U64);
 
 /// A type that a world imports under a name.
 fn import_type(of: &mut ComponentType, name: &str, ty: Val) -> Val {
-    let Val::Type(ty) = ty else { panic!("a type with an index") };
-    let index = of.type_count();
-    of.import(name, ComponentTypeRef::Type(TypeBounds::Eq(ty)));
-    Val::Type(index)
+    Val::Type(of.import_type(name, equal(ty)))
 }
 
 fn empty(_: &mut ComponentType) {}
@@ -112,15 +109,12 @@ fn trees(of: &mut InstanceType) {
         ("many", Some(many)),
         ("pair", Some(pair)),
     ];
-    let leaf = of.defined(|ty| ty.variant(cases));
-    let leaf = named(of, "leaf", leaf);
-    let colour = of.defined(|ty| ty.enum_type(["red", "green", "blue", "ultra-violet"]));
-    let colour = named(of, "colour", colour);
-    let few = of.defined(|ty| ty.flags(["a", "b", "c"]));
-    let few = named(of, "few", few);
+    let leaf = named_type(of, "leaf", |ty| ty.variant(cases));
+    let colour =
+        named_type(of, "colour", |ty| ty.enum_type(["red", "green", "blue", "ultra-violet"]));
+    let few = named_type(of, "few", |ty| ty.flags(["a", "b", "c"]));
     let names: Vec<String> = (0..32).map(|i| format!("f{i}")).collect();
-    let many = of.defined(|ty| ty.flags(names.iter().map(String::as_str)));
-    let many = named(of, "many", many);
+    let many = named_type(of, "many", |ty| ty.flags(names.iter().map(String::as_str)));
     of.export_func("walk", &[("l", leaf), ("c", colour)], Some(few));
     let option = of.defined(|ty| ty.option(leaf));
     of.export_func("roll", &[("m", many)], Some(option));
@@ -163,8 +157,7 @@ fn resources(of: &mut ComponentType) {
 fn things(of: &mut InstanceType) {
     let thing = resource(of, "thing");
     let own = of.defined(|ty| ty.own(thing));
-    let holder = of.defined(|ty| ty.record([("it", own), ("n", U32)]));
-    let holder = named(of, "holder", holder);
+    let holder = named_type(of, "holder", |ty| ty.record([("it", own), ("n", U32)]));
     of.export_func("[constructor]thing", &[("v", U32)], Some(own));
     let this = of.defined(|ty| ty.borrow(thing));
     of.export_func("[method]thing.get", &[("self", this)], Some(U32));
@@ -184,24 +177,21 @@ fn exported_resources(of: &mut ComponentType) {
 fn uses(of: &mut ComponentType) {
     let a = interface(of, |of| {
         let list = of.defined(|ty| ty.list(STRING));
-        let r = of.defined(|ty| ty.record([("x", U8), ("y", list)]));
-        let r = named(of, "r", r);
-        let e = of.defined(|ty| ty.enum_type(["one", "two"]));
-        named(of, "e", e);
+        let r = named_type(of, "r", |ty| ty.record([("x", U8), ("y", list)]));
+        named_type(of, "e", |ty| ty.enum_type(["one", "two"]));
         named(of, "alias1", r);
     });
     of.import("t:uses/a", a);
-    let (r, e, alias1) = (taken(of, 0, "r"), taken(of, 0, "e"), taken(of, 0, "alias1"));
+    let [r, e, alias1] = ["r", "e", "alias1"].map(|name| of.alias_export_type(0, name));
     let b = interface(of, |of| {
         let r = used(of, r, "r");
         let ee = used(of, e, "ee");
         let alias1 = used(of, alias1, "alias1");
-        let mine = of.defined(|ty| ty.list(r));
-        named(of, "mine", mine);
+        named_type(of, "mine", |ty| ty.list(r));
         of.export_func("get", &[("x", r), ("y", ee)], Some(alias1));
     });
     of.import("t:uses/b", b);
-    let (mine, ee) = (taken(of, 1, "mine"), taken(of, 1, "ee"));
+    let (mine, ee) = (of.alias_export_type(1, "mine"), of.alias_export_type(1, "ee"));
     let c = |of: &mut InstanceType| {
         let r = used(of, r, "r");
         let mine = used(of, mine, "mine");
@@ -223,22 +213,19 @@ fn uses(of: &mut ComponentType) {
 
 fn packages(of: &mut ComponentType) {
     let types = interface(of, |of| {
-        let instant = of.defined(|ty| ty.primitive(PrimitiveValType::U64));
-        let instant = named(of, "instant", instant);
-        let span = of.defined(|ty| ty.record([("low", instant), ("high", instant)]));
-        named(of, "span", span);
+        let instant = named_type(of, "instant", |ty| ty.primitive(PrimitiveValType::U64));
+        named_type(of, "span", |ty| ty.record([("low", instant), ("high", instant)]));
         of.export_func("now", &[], Some(instant));
     });
     of.import("dep:one/types@1.2.3", types);
-    let span = taken(of, 0, "span");
+    let span = of.alias_export_type(0, "span");
     let logging = interface(of, |of| {
         let span = used(of, span, "span");
-        let level = of.defined(|ty| ty.enum_type(["debug", "info"]));
-        named(of, "level", level);
+        named_type(of, "level", |ty| ty.enum_type(["debug", "info"]));
         of.export_func("log", &[("s", span), ("text", STRING)], None);
     });
     of.import("dep:two/logging@0.1.0-rc.1+build5", logging);
-    let level = taken(of, 1, "level");
+    let level = of.alias_export_type(1, "level");
     let mine = interface(of, |of| {
         let level = used(of, level, "level");
         let span = used(of, span, "span");
@@ -249,16 +236,14 @@ fn packages(of: &mut ComponentType) {
 
 fn async_export(of: &mut ComponentType) {
     let srv = interface(of, |of| {
-        let req = of.defined(|ty| ty.record([("url", STRING), ("n", U32)]));
-        let req = named(of, "req", req);
+        let req = named_type(of, "req", |ty| ty.record([("url", STRING), ("n", U32)]));
         let result = of.defined(|ty| ty.result(Some(STRING), Some(U8)));
         of.export_async("handle", &[("r", req)], Some(result));
         let pair = of.defined(|ty| ty.tuple([U32, STRING]));
         of.export_async("other", &[("x", F64)], Some(pair));
         of.export_async("sync-one", &[("x", U8)], None);
     });
-    let top = of.func(true, &[], Some(U32));
-    of.export("top", ComponentTypeRef::Func(top));
+    of.export_async("top", &[], Some(U32));
     of.export("t:ase/srv", srv);
 }
 
@@ -282,16 +267,14 @@ fn streams(of: &mut ComponentType) {
 
 fn inline(of: &mut ComponentType) {
     let things = interface(of, |of| {
-        let a = of.defined(|ty| ty.record([("b", U8)]));
-        let a = named(of, "a", a);
+        let a = named_type(of, "a", |ty| ty.record([("b", U8)]));
         let list = of.defined(|ty| ty.list(a));
         of.export_func("f", &[("x", a)], Some(list));
     });
     of.import("things", things);
     import_func(of, "lone", &[], None);
     let out = interface(of, |of| {
-        let v = of.defined(|ty| ty.variant([("a", None), ("b", Some(STRING))]));
-        let v = named(of, "v", v);
+        let v = named_type(of, "v", |ty| ty.variant([("a", None), ("b", Some(STRING))]));
         of.export_func("g", &[("x", v)], Some(v));
     });
     of.export("out", out);

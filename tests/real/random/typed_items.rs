@@ -136,8 +136,7 @@ impl Maker<'_> {
                 }
             }
             2 => {
-                let record = ty.defined(|ty| ty.record([("a", U8)]));
-                known.push(named(ty, name, record));
+                known.push(named_type(ty, name, |ty| ty.record([("a", U8)])));
             }
             _ => {
                 let of = self.random.of(known);
@@ -161,9 +160,8 @@ impl Maker<'_> {
         let outer = self.random.of(&scope.function_types);
         let name = self.name(scope, "f");
         if let Some(Function { ty: index, .. }) = outer {
-            let (kind, here) = (ComponentOuterAliasKind::Type, ty.type_count());
-            ty.alias(Alias::Outer { kind, count: 1, index });
-            ty.export(&name, ComponentTypeRef::Func(here));
+            let here = ty.alias_outer_type(1, index);
+            ty.export_of(&name, here);
         }
         let index = b.type_instance(None, &ty);
         let interface = self.name(scope, "i").to_lowercase();
