@@ -1,6 +1,6 @@
-//! The indices in a node.
+//! The indices in an item.
 
-use wenc::tree::{Node, Scope, Space, UsedIndex};
+use wenc::tree::{ItemTree, Node, Scope, Space, UsedIndex};
 
 /// An index that an item has: its space, the scope of that, and itself.
 pub type Seen = (Space, Scope, u32);
@@ -26,4 +26,43 @@ pub fn visited(node: Node) -> Vec<Seen> {
         seen.push((space, scope, index));
     });
     seen
+}
+
+/// Adds a number to each index of the item. Returns what they were.
+fn raised(item: &mut ItemTree, by: u32) -> Vec<Seen> {
+    let mut seen = Vec::new();
+    item.indices_mut(|used| {
+        seen.push((used.space, used.scope, *used.index));
+        *used.index = used.index.wrapping_add(by);
+    });
+    seen
+}
+
+/// In an order that doesn't depend on that of fields.
+fn sorted(mut seen: Vec<Seen>) -> Vec<Seen> {
+    seen.sort_by_key(|(space, scope, index)| {
+        let scope = match scope {
+            Scope::Component(count) => (0, *count),
+            Scope::Type(depth) => (1, *depth),
+        };
+        (space.number(), scope, *index)
+    });
+    seen
+}
+
+/// The item contains these indices, in this order, and each can be changed. Its node has them too,
+/// in the order of fields. A difference isn't printed, as it may be long.
+#[track_caller]
+pub fn has_indices(item: &ItemTree, wanted: &[Seen], what: &str) {
+    let mut of_node = Vec::new();
+    add_indices(item.node(), &mut of_node);
+    assert!(sorted(of_node) == sorted(wanted.to_vec()), "{what}: the node");
+    assert!(visited(item.node()) == wanted, "{what}: visited");
+    let mut changed = item.clone();
+    assert!(raised(&mut changed, 0) == wanted && changed == *item, "{what}: nothing was changed");
+    assert!(raised(&mut changed, 1000) == wanted, "{what}: to be changed");
+    assert_eq!(changed != *item, !wanted.is_empty(), "{what}: changed");
+    let more = wanted.iter().map(|(of, from, at)| (*of, *from, at.wrapping_add(1000)));
+    assert!(raised(&mut changed, 1000_u32.wrapping_neg()).into_iter().eq(more), "{what}: raised");
+    assert!(changed == *item, "{what}: nothing else was changed");
 }

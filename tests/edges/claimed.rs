@@ -1,12 +1,12 @@
 //! Iterators that report a wrong length: each value is encoded, and the encoded count is the number
 //! of values.
 
-use crate::text;
 use crate::unsupported::{field, sub};
 use wenc::{
     CompositeInnerType, CoreTypeEncoder, CoreTypeSection, FuncType, HeapType, InstanceType,
     ModuleType, RefType, StorageType, ValType,
 };
+use wenc_calls::encoded::encoded;
 
 /// An iterator that reports this length until it ends.
 struct Claiming<I>(usize, I);
@@ -35,13 +35,13 @@ fn is_encoded(write: impl Fn(CoreTypeEncoder<'_>, usize), wanted: &[u8]) {
         let mut section = CoreTypeSection::new();
         write(section.ty().core(), claimed);
         let size = u8::try_from(1 + wanted.len()).expect("it is short");
-        assert_eq!(text(&section), [&[size, 1], wanted].concat(), "{claimed}");
+        assert_eq!(encoded(&section), [&[size, 1], wanted].concat(), "{claimed}");
         let mut module = ModuleType::new();
         write(module.ty(), claimed);
-        assert_eq!(text(&module), [&[0x50, 1, 1], wanted].concat(), "{claimed}");
+        assert_eq!(encoded(&module), [&[0x50, 1, 1], wanted].concat(), "{claimed}");
         let mut instance = InstanceType::new();
         write(instance.core_type().core(), claimed);
-        assert_eq!(text(&instance), [&[0x42, 1, 0], wanted].concat(), "{claimed}");
+        assert_eq!(encoded(&instance), [&[0x42, 1, 0], wanted].concat(), "{claimed}");
     }
 }
 
@@ -111,6 +111,6 @@ fn bytes_of_values() {
         section.ty().core().function([ValType::I32], types);
         let wanted = [&[2, 0x60], &list[..], &[1, 0x7c, 0x60, 1, 0x7f], &list].concat();
         let size = u8::try_from(wanted.len()).expect("it is short");
-        assert_eq!(text(&section), [&[size], &wanted[..]].concat(), "{len} {place}");
+        assert_eq!(encoded(&section), [&[size], &wanted[..]].concat(), "{len} {place}");
     }
 }

@@ -6,6 +6,7 @@ use std::error::Error;
 use std::fmt::Debug;
 use wenc::tree::{self, AliasTree, Command, DefinedTree, ItemTree, NameTree, Space, TypeTree};
 use wenc::*;
+use wenc_calls::encoded::encoded;
 
 fn imports(name: &str) -> ComponentImportSection {
     let mut section = ComponentImportSection::new();
@@ -132,7 +133,7 @@ where
         let id = T::try_from(number);
         assert_eq!(id.map(|id| format!("{id:?}")).ok().as_deref(), names.next());
         match id {
-            Ok(id) => assert_eq!((id.into(), crate::text(&id)), (number, vec![number])),
+            Ok(id) => assert_eq!((id.into(), encoded(&id)), (number, vec![number])),
             Err(unknown) => assert_eq!(unknown, UnknownSectionId(number)),
         }
     }
@@ -188,9 +189,10 @@ fn names_of_trees_are_taken_where_names_are() {
     let options =
         tree::NameOptions { implements: None, version_suffix: None, external_id: Some("x".into()) };
     section.import(NameTree { name: "h".into(), options: Some(options.into()) }, ty);
-    let mut bytes = Vec::new();
-    section.encode(&mut bytes);
-    assert_eq!(bytes, *b"\x14\x03\0\x01f\x01\0\0\x01g\x01\0\x02\x01h\x01\x02\x01x\x01\0");
+    assert_eq!(
+        encoded(&section),
+        *b"\x14\x03\0\x01f\x01\0\0\x01g\x01\0\x02\x01h\x01\x02\x01x\x01\0"
+    );
 }
 
 #[test]

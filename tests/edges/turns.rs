@@ -1,10 +1,11 @@
 //! The order of the calls that encode a function type: a call out of turn panics or, with `try_`,
 //! fails, and writes nothing.
 
-use crate::{panics, text};
+use crate::panics;
 use wenc::{
     ComponentBuilder, ComponentFuncTypeEncoder, ComponentTypeSection, Error, PrimitiveValType,
 };
+use wenc_calls::encoded::encoded;
 
 const PARAMS: [(&str, PrimitiveValType); 1] = [("a", PrimitiveValType::U8)];
 
@@ -48,10 +49,10 @@ fn each_order() {
         assert_eq!(types.is_finished(), next == 3);
         if next < 3 {
             assert!(types.discard_unfinished());
-            assert_eq!(text(&types), [3, 1, 0x69, 0]);
+            assert_eq!(encoded(&types), [3, 1, 0x69, 0]);
         } else {
             let lead = if is_async { 0x43 } else { 0x40 };
-            assert_eq!(text(&types), [10, 2, 0x69, 0, lead, 1, 1, b'a', 0x7d, 1, 0]);
+            assert_eq!(encoded(&types), [10, 2, 0x69, 0, lead, 1, 1, b'a', 0x7d, 1, 0]);
             ended += 1;
         }
     }

@@ -1,6 +1,5 @@
 //! Core types that aren't in WebAssembly 3.0: encoding them fails and writes nothing.
 
-use crate::text;
 use std::panic::{AssertUnwindSafe, catch_unwind};
 use wenc::Unsupported::{self, *};
 use wenc::{
@@ -10,6 +9,7 @@ use wenc::{
     HeapType, InstanceType, MemoryType, ModuleType, RefType, StorageType, StructType, SubType,
     TableType, ValType,
 };
+use wenc_calls::encoded::encoded;
 
 const SHARED: HeapType = HeapType::Abstract { shared: true, ty: AbstractHeapType::Func };
 const EXACT: ValType = ValType::Ref(RefType { nullable: false, heap_type: HeapType::Exact(0) });
@@ -130,7 +130,7 @@ fn types_of_entities() {
         assert_eq!(ty.try_export("n", entity).err(), error);
         assert!(ty.is_finished());
     }
-    assert_eq!(text(&ty), b"\x50\x01\x03\x01f\0\0");
+    assert_eq!(encoded(&ty), b"\x50\x01\x03\x01f\0\0");
 }
 
 /// The call fails with each parent, which is then unfinished, and writes nothing.
@@ -151,9 +151,9 @@ fn refuses(part: Unsupported, write: fn(CoreTypeEncoder<'_>) -> Result<(), Error
     assert!(builder.discard_unfinished());
     section.ty().core().struct_([]);
     builder.core_type(None).1.core().struct_([]);
-    assert_eq!(text(&section), [0x03, 0x01, 0x5f, 0x00]);
-    assert_eq!([text(&component), text(&instance)], [[0x41, 0x00], [0x42, 0x00]]);
-    assert_eq!(text(&module), [0x50, 0x00]);
+    assert_eq!(encoded(&section), [0x03, 0x01, 0x5f, 0x00]);
+    assert_eq!([encoded(&component), encoded(&instance)], [[0x41, 0x00], [0x42, 0x00]]);
+    assert_eq!(encoded(&module), [0x50, 0x00]);
     assert_eq!(builder.finish()[8..], [0x03, 0x03, 0x01, 0x5f, 0x00]);
 }
 
@@ -187,7 +187,7 @@ fn default_values() {
     assert!(StorageType::I8.is_defaultable());
     assert!(!StorageType::Val(never_null).is_defaultable());
     assert_eq!(RefType::new_abstract(AbstractHeapType::Func, true, false), RefType::FUNCREF);
-    assert_eq!(text(&ValType::EXNREF), [0x63, 0x69]);
+    assert_eq!(encoded(&ValType::EXNREF), [0x63, 0x69]);
 }
 
 /// Types of slots and of representations.
@@ -203,12 +203,12 @@ fn other_calls() {
     let mut functions = CanonicalFunctionSection::new();
     assert_eq!(functions.try_context_get(EXACT, 0).err(), Some(error));
     assert_eq!(functions.try_context_set(EXACT, 0).err(), Some(error));
-    assert_eq!(text(&functions), [0x01, 0x00]);
+    assert_eq!(encoded(&functions), [0x01, 0x00]);
 
     let mut types = ComponentTypeSection::new();
     assert_eq!(types.try_resource(EXACT, None).err(), Some(error));
     assert_eq!((types.is_finished(), types.len()), (true, 0));
     assert_eq!(types.ty().try_resource(EXACT, None), Err(error));
     assert!(types.discard_unfinished());
-    assert_eq!(text(&types), [0x01, 0x00]);
+    assert_eq!(encoded(&types), [0x01, 0x00]);
 }

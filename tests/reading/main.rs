@@ -2,16 +2,11 @@
 
 mod commands;
 mod core_sections;
-#[allow(dead_code, reason = "some are for others")]
-#[path = "../real/corpus.rs"]
-mod corpus;
 mod cursor;
 mod debug_names;
 mod definitions;
 mod faults;
 mod groups;
-#[path = "../common/hex.rs"]
-mod hex;
 mod indices;
 mod listing;
 mod nested;
@@ -23,22 +18,14 @@ mod producers;
 mod real;
 mod rewrite;
 mod scopes;
-#[allow(dead_code, reason = "some are for others")]
-#[path = "../common/sections.rs"]
-mod sections;
-#[path = "../common/seen.rs"]
-mod seen;
-#[path = "../common/spellings.rs"]
-mod spellings;
 mod views;
-#[path = "../common/visited.rs"]
-mod visited;
 
-use hex::bytes;
-use indices::{expect, here};
-use visited::Seen;
+use indices::expect;
 use wenc::tree::NameTree;
 use wenc::*;
+use wenc_calls::call::{Seen, here};
+use wenc_calls::hex::bytes;
+use wenc_calls::{corpus, sections, seen, spellings};
 
 /// A component with these sections.
 fn component(sections: &[u8]) -> Vec<u8> {

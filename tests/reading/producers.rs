@@ -1,6 +1,7 @@
 //! Tools in producers sections.
 
-use wenc::{Encode, Producer, ProducersFault, ProducersReader, ProducersSection};
+use wenc::{Producer, ProducersFault, ProducersReader, ProducersSection};
+use wenc_calls::encoded::encoded;
 
 fn tools(data: &[u8]) -> Vec<Result<Producer<'_>, ProducersFault>> {
     ProducersReader::new(data).collect()
@@ -30,8 +31,7 @@ fn long_texts_and_many_tools_are_read() {
         let mut field = wenc::ProducersField::new();
         (0..size).for_each(|_| _ = field.value("a", "1"));
         section.field(&name, &field);
-        let mut bytes = Vec::new();
-        section.encode(&mut bytes);
+        let bytes = encoded(&section);
         let at = bytes.windows(9).position(|name| name == b"producers").expect("its name") + 9;
         assert_eq!(tools(&bytes[at..]), vec![Ok(tool(&name, "a", "1")); size]);
     }

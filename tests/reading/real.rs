@@ -5,6 +5,7 @@ use crate::seen::{is_name, is_same};
 use wenc::scope::{Definitions, Meaning};
 use wenc::tree::{ItemTree, Space};
 use wenc::*;
+use wenc_calls::encoded::encoded;
 
 /// How many there are.
 #[derive(Debug, Default, PartialEq)]
@@ -193,9 +194,7 @@ fn is_written_again(data: &[u8], all: &mut Found) {
         field.iter().for_each(|tool| _ = values.value(tool.name, tool.version));
         section.field(field[0].field, &values);
     }
-    let mut bytes = Vec::new();
-    section.encode(&mut bytes);
-    assert!(bytes.ends_with(data), "{tools:?}");
+    assert!(encoded(&section).ends_with(data), "{tools:?}");
     all.producers += 1;
     all.tools += tools.len();
 }

@@ -9,12 +9,11 @@ use wenc::view::{
     ItemView, NameView, TypeView,
 };
 use wenc::*;
+use wenc_calls::encoded::encoded;
 
 /// The number in LEB128.
 fn number(number: usize) -> Vec<u8> {
-    let mut bytes = Vec::new();
-    u32::try_from(number).expect("it is short").encode(&mut bytes);
-    bytes
+    encoded(&u32::try_from(number).expect("it is short"))
 }
 
 /// A component with one section.
@@ -70,9 +69,7 @@ fn each(at: usize, check: impl Fn(ItemView<'_>)) {
 /// A copy is encoded as these bytes.
 #[track_caller]
 fn is_copy<T: Encode>(copy: T, wanted: &[u8]) {
-    let mut sink = Vec::new();
-    copy.encode(&mut sink);
-    assert_eq!(sink, wanted);
+    assert_eq!(encoded(&copy), wanted);
 }
 
 #[test]

@@ -7,23 +7,20 @@
 //! tests of worlds, features, random components, examples and documentation call it; where it has
 //! none they say that they were left out.
 
-mod corpus;
 mod debug_names;
 mod definitions;
 mod docs;
 mod examples;
 mod features;
-#[path = "../common/hex.rs"]
-mod hex;
 mod indices;
 mod interfaces;
 mod iterators;
 mod random;
 mod rebuilt;
 mod shown;
-#[path = "../common/side_by_side.rs"]
-mod side_by_side;
 mod toolchain;
 mod upstream;
 mod valid;
 mod worlds;
+
+use wenc_calls::{corpus, hex, side_by_side};

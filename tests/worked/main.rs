@@ -1,25 +1,18 @@
 //! Rows of calls and the bytes that they write, in hexadecimal: literals that were worked out from
 //! the format's standard. `tests/calls` composes its bytes instead.
-#![allow(unsafe_code, reason = "a global allocator is unsafe")]
 
 mod builder;
 mod listed;
-#[allow(dead_code, reason = "some are for others")]
-#[path = "../common/refuse.rs"]
-mod refuse;
 mod refused;
 mod runs;
 mod sections;
-#[allow(dead_code, reason = "some are for others")]
-#[path = "../common/seen.rs"]
-mod seen;
 mod type_sections;
 mod values;
 
 use runs::hex;
-use seen::is_same;
 use wenc::tree::{Command, build};
 use wenc::*;
+use wenc_calls::seen::is_same;
 
 /// What follows the header.
 #[track_caller]

@@ -1,8 +1,8 @@
 //! Calls while memory is refused.
 
 use super::is_behind;
-use super::refuse::refusing;
 use wenc::*;
+use wenc_calls::refuse::refusing;
 
 const NONE: [(&str, ComponentValType); 0] = [];
 

@@ -2,6 +2,7 @@
 
 use super::{is_behind, is_listed};
 use wenc::*;
+use wenc_calls::encoded::encoded;
 
 /// A type that is a supertype of others or not.
 fn subtype(is_final: bool, supertype_idx: Option<u32>, inner: CompositeInnerType) -> SubType {
@@ -163,7 +164,5 @@ fn an_instance_type_is_given_up() {
     assert_eq!(ty.len(), 1);
     assert!(ty.discard_unfinished());
     assert_eq!((ty.len(), ty.type_count()), (0, 0));
-    let mut bytes = Vec::new();
-    ty.encode(&mut bytes);
-    assert_eq!(bytes, [0x42, 0x00]);
+    assert_eq!(encoded(&ty), [0x42, 0x00]);
 }

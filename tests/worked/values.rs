@@ -2,6 +2,7 @@
 
 use super::runs::hex;
 use wenc::*;
+use wenc_calls::encoded::encoded;
 
 /// A name with these options: what it implements, the suffix of its version, its external id.
 fn name(name: &'static str, options: [Option<&'static str>; 3]) -> ComponentExternName<'static> {
@@ -52,9 +53,7 @@ fn rows() {
         (&names(), "02 05 01 61 01 01 62"),
     ];
     for (value, wanted) in rows {
-        let mut bytes = Vec::new();
-        value.encode(&mut bytes);
-        assert_eq!(bytes, hex(wanted));
+        assert_eq!(encoded(value), hex(wanted));
     }
 }
 

@@ -1,7 +1,6 @@
 //! Why components can't be read: for damaged ones, C returns what Rust returns.
 
 use super::edges::{EMPTY, Held};
-use super::random::Random;
 use std::collections::BTreeMap;
 use std::ffi::c_char;
 use std::{fs, mem, ptr};
@@ -10,6 +9,7 @@ use wenc::{
     Cause, DebugNames, Items, ListFault, NamesFault, NamesReader, ProducersFault, ProducersReader,
     Sections, Unread, list,
 };
+use wenc_calls::random::Random;
 use wenc_capi::Status;
 use wenc_capi::listing::*;
 use wenc_capi::rows::SectionRow;

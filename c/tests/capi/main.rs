@@ -7,18 +7,11 @@ mod causes;
 mod declared;
 mod edges;
 mod errors;
-#[path = "../../../tests/common/hex.rs"]
-mod hex;
 mod nodes;
 mod numbers;
-#[path = "../../../tests/common/random.rs"]
-mod random;
 mod sections;
 mod sweeps;
 #[allow(dead_code, reason = "some is for scripts alone")]
 #[path = "../../../tests/proved/program/vectors.rs"]
 mod vectors;
 mod walk;
-#[allow(dead_code, reason = "some is for Rust alone")]
-#[path = "../../../tests/common/sections.rs"]
-mod worked;

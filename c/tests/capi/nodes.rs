@@ -1,17 +1,17 @@
 //! The fields of items, beside the nodes that Rust has of them.
 
 use super::causes::components;
-use super::hex;
 use super::vectors;
 use super::walk::{begun, items, next_item, next_section, text};
-use super::worked::ROWS;
 use std::collections::{BTreeMap, BTreeSet};
 use std::ffi::c_void;
 use std::{mem, ptr};
 use wenc::tree::{Child, ItemTree, Node, Scope, Space};
 use wenc::view::ItemView;
 use wenc::{Producer, ProducersReader, Sections};
+use wenc_calls::hex;
 use wenc_calls::refuse::requested;
+use wenc_calls::sections::ROWS;
 use wenc_capi::Status;
 use wenc_capi::arguments::Flag;
 use wenc_capi::nodes::*;

@@ -4,6 +4,7 @@
 use wenc::tree::Space;
 use wenc::*;
 use wenc_calls::bytes;
+use wenc_calls::encoded::{encoded, written};
 use wenc_calls::format::{Model, NAMED, list, sized};
 use wenc_calls::refuse::refusing;
 use wenc_calls::size::{SIZES, Size};
@@ -27,12 +28,6 @@ const NAMINGS: [fn(&mut ComponentNameSection, &NameMap) -> Done; 13] = [
     ComponentNameSection::try_values,
 ];
 
-fn encoded(value: &impl Encode) -> Vec<u8> {
-    let mut bytes = Vec::new();
-    value.encode(&mut bytes);
-    bytes
-}
-
 fn map(a: &Size) -> NameMap {
     let mut map = NameMap::new();
     (0..a.count).for_each(|at| map.append(a.at(at), a.text_at(at)));
@@ -51,18 +46,10 @@ fn is_section(section: &ComponentNameSection, subsections: &[u8]) {
     model.add(0, bytes!["component-name", subsections]);
     let wanted = model.finish();
     for section in [section, &section.clone()] {
-        let mut appended = Component::HEADER.to_vec();
-        section.append_to_component(&mut appended);
-        let encoded = [&Component::HEADER[..], &[0], &encoded(section)].concat();
-        let custom = [&Component::HEADER[..], &[0], &encoded_custom(section)].concat();
-        let whole = Component::new().section(section).as_slice().to_vec();
-        assert!([appended, encoded, custom, whole].iter().all(|bytes| *bytes == wanted));
+        let all = [written(section), written(&section.as_custom())];
+        assert!(all.iter().flatten().all(|bytes| *bytes == wanted));
         assert_eq!(section.is_empty(), subsections.is_empty());
     }
-}
-
-fn encoded_custom(section: &ComponentNameSection) -> Vec<u8> {
-    encoded(&section.as_custom())
 }
 
 #[test]

@@ -2,14 +2,14 @@
 //! visited.
 
 use super::{is_made, same, with_each};
-use crate::seen::is_same;
-use wenc::tree::{Command, ItemTree, Node, Scope};
+use wenc::tree::{Command, ItemTree};
 use wenc::view::ItemView;
 use wenc::*;
-use wenc_calls::call::{Call, Seen};
+use wenc_calls::call::Call;
 use wenc_calls::format::Model;
+use wenc_calls::seen::is_same;
 use wenc_calls::size::{Size, cases};
-use wenc_calls::visited::{add_indices, visited};
+use wenc_calls::visited::{has_indices, visited};
 
 /// The command without a debug name.
 fn unnamed(command: Command) -> Command {
@@ -17,44 +17,6 @@ fn unnamed(command: Command) -> Command {
         Command::Alias { alias, .. } => Command::Alias { debug_name: None, alias },
         command => command,
     }
-}
-
-/// Visits the indices of an item.
-fn seen(item: &mut ItemTree, by: u32) -> Vec<Seen> {
-    let mut seen = Vec::new();
-    item.indices_mut(|used| {
-        seen.push((used.space, used.scope, *used.index));
-        *used.index = used.index.wrapping_add(by);
-    });
-    seen
-}
-
-/// The node has the same indices, in the order of its fields.
-fn is_node(call: &Call, node: Node, wanted: &[Seen]) {
-    let (mut seen, mut wanted) = (Vec::new(), wanted.to_vec());
-    add_indices(node, &mut seen);
-    let key = |(space, scope, index): &Seen| {
-        let scope = match scope {
-            Scope::Component(count) => (0, *count),
-            Scope::Type(depth) => (1, *depth),
-        };
-        (space.number(), scope, *index)
-    };
-    seen.sort_by_key(key);
-    wanted.sort_by_key(key);
-    assert!(seen == wanted, "{}: the node", call.name);
-}
-
-fn is_visited(call: &Call, size: &Size, mut item: ItemTree) {
-    let (before, wanted) = (item.clone(), (call.indices)(size));
-    is_node(call, item.node(), &wanted);
-    assert!(visited(item.node()) == wanted, "{}: visited", call.name);
-    assert!(seen(&mut item, 1000) == wanted, "{}", call.name);
-    let raised: Vec<_> =
-        wanted.iter().map(|(of, from, at)| (*of, *from, at.wrapping_add(1000))).collect();
-    assert_eq!(item != before, !wanted.is_empty());
-    assert!(seen(&mut item, 1000_u32.wrapping_neg()) == raised, "{}", call.name);
-    assert!(item == before, "{}", call.name);
 }
 
 fn is_read(call: &Call, size: &Size) {
@@ -74,7 +36,7 @@ fn is_read(call: &Call, size: &Size) {
     if let ItemTree::Canon(canon) = tree {
         assert_eq!(canon.name(), call.name);
     }
-    is_visited(call, size, tree.clone());
+    has_indices(tree, &(call.indices)(size), &call.name);
     let mut sections = Sections::new(&bytes).expect("a component");
     let reader = sections.next().expect("a section").expect("it is read");
     assert!(sections.next().is_none());

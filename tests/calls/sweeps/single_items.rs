@@ -4,20 +4,16 @@
 use wenc::tree::{CaseTree, Command, build};
 use wenc::*;
 use wenc_calls::bytes;
+use wenc_calls::encoded::written;
 use wenc_calls::format::{Model, list, sized};
 use wenc_calls::size::{SIZES, Size};
 
 /// Expects these bytes of a component with the section, by each call that writes it.
 #[track_caller]
 fn is_alone(section: &impl ComponentSection, wanted: &[u8]) {
-    let mut whole = Component::new();
-    whole.section(section);
-    let mut appended = Component::HEADER.to_vec();
-    section.append_to_component(&mut appended);
-    let mut encoded = [&Component::HEADER[..], &[section.id()]].concat();
-    section.encode(&mut encoded);
-    assert!([whole.as_slice(), &appended, &encoded].iter().all(|bytes| *bytes == wanted));
-    assert!(whole.clone().finish() == wanted && whole.finish() == wanted);
+    assert!(written(section).iter().all(|bytes| *bytes == wanted));
+    let whole = Component::new().section(section).clone();
+    assert!(whole.as_slice() == wanted && whole.finish() == wanted);
 }
 
 /// A component of this section.

@@ -1,28 +1,17 @@
 //! The debug names that follow the indices of an item, in each form that contains an index.
 
-#[path = "../../../../tests/common/hex.rs"]
-mod hex;
 #[path = "../../../../tests/reading/scopes.rs"]
 mod scopes;
-#[allow(dead_code, reason = "some is for others")]
-#[path = "../../../../tests/common/sections.rs"]
-mod sections;
 
 use crate::dump;
-use hex::bytes;
-use wenc::tree::{Command, ItemTree, NameTree, Scope, Space, build};
+use wenc::tree::{Command, ItemTree, NameTree, Scope, build};
 use wenc::{
     Component, ComponentNameSection, ComponentSection, ComponentSectionId, DebugNames, RawSection,
     list,
 };
-
-/// A space, how a scope is seen from the item, and an index.
-type Seen = (Space, Scope, u32);
-
-/// An index in this component.
-fn here(space: Space, index: u32) -> Seen {
-    (space, Scope::Component(0), index)
-}
+use wenc_calls::call::{Seen, here};
+use wenc_calls::hex::bytes;
+use wenc_calls::sections;
 
 fn text(text: &str) -> String {
     text.into()

@@ -12,37 +12,31 @@ use wenc::{CoreSection, CoreSections, DebugNames, ProducersReader, SectionReader
 /// How many components are damaged. Programs that aren't optimized are slow.
 const COMPONENTS: usize = if cfg!(debug_assertions) { 1_000 } else { 20_000 };
 
-impl Random {
-    fn one_of<'a, T>(&mut self, values: &'a [T]) -> &'a T {
-        &values[self.below(values.len())]
-    }
+fn byte(random: &mut Random) -> u8 {
+    // Most meaningful bytes are small.
+    if random.below(2) == 0 { random.below(0x13) as u8 } else { random.below(0x100) as u8 }
+}
 
-    fn byte(&mut self) -> u8 {
-        // Most meaningful bytes are small.
-        if self.below(2) == 0 { self.below(0x13) as u8 } else { self.below(0x100) as u8 }
-    }
-
-    /// Bytes after a header, damaged in a few places.
-    fn damaged(&mut self, mut bytes: Vec<u8>) -> Vec<u8> {
-        for _ in 0..=self.below(3) {
-            let at = 8 + self.below(bytes.len() - 7);
-            match self.below(6) {
-                0 => bytes.insert(at, self.byte()),
-                1 => bytes.truncate(at),
-                2 if at < bytes.len() => {
-                    bytes.remove(at);
-                }
-                3 if at < bytes.len() => bytes[at] ^= 1 << self.below(8),
-                4 => {
-                    let end = (at + self.below(9)).min(bytes.len());
-                    bytes.drain(at..end);
-                }
-                _ if at < bytes.len() => bytes[at] = self.byte(),
-                _ => bytes.push(self.byte()),
+/// Bytes after a header, damaged in a few places.
+fn damaged(mut bytes: Vec<u8>, random: &mut Random) -> Vec<u8> {
+    for _ in 0..=random.below(3) {
+        let at = 8 + random.below(bytes.len() - 7);
+        match random.below(6) {
+            0 => bytes.insert(at, byte(random)),
+            1 => bytes.truncate(at),
+            2 if at < bytes.len() => {
+                bytes.remove(at);
             }
+            3 if at < bytes.len() => bytes[at] ^= 1 << random.below(8),
+            4 => {
+                let end = (at + random.below(9)).min(bytes.len());
+                bytes.drain(at..end);
+            }
+            _ if at < bytes.len() => bytes[at] = byte(random),
+            _ => bytes.push(byte(random)),
         }
-        bytes
     }
+    bytes
 }
 
 /// Small components of the corpus, and the sections of all.
@@ -132,7 +126,7 @@ fn damaged_components() {
             let sections = (0..random.below(6)).map(|_| random.one_of(&parts).clone());
             component(&sections.collect::<Vec<_>>().concat())
         };
-        random.damaged(bytes)
+        damaged(bytes, &mut random)
     };
     let damaged: Vec<_> = (0..COMPONENTS).map(&mut damaged).collect();
     let statuses = side_by_side(COMPONENTS, |number| usize::from(check(&damaged[number])));

@@ -18,10 +18,6 @@ mod limits;
 #[path = "../../../wenc/tests/program/manual.rs"]
 mod manual;
 mod options;
-#[path = "../../../../tests/common/random.rs"]
-mod random;
-#[path = "../../../../tests/common/side_by_side.rs"]
-mod side_by_side;
 mod size;
 mod text;
 mod wit;
@@ -30,7 +26,7 @@ use std::fs;
 use std::io::Write;
 use std::path::{Path, PathBuf};
 use std::process::{Command, Output};
-use wenc_calls::json_value;
+use wenc_calls::{json_value, random, side_by_side};
 use wenc_dump::{Streams, Terminal};
 
 const PROGRAM: &str = env!("CARGO_BIN_EXE_dump-program");
