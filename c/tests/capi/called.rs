@@ -1,7 +1,7 @@
 //! The call for C that does what a command does.
 
 use crate::declared;
-use crate::edges::named;
+use crate::edges::{done, named};
 use crate::numbers::{
     builtin, builtin_with, core_kind, core_value, kind, maybe_value, option, outer_kind, primitive,
     type_ref, value,
@@ -289,10 +289,8 @@ pub fn call(handle: *mut Handle, command: &Command) -> Done {
         }
         Command::Custom { name, data } => {
             let (at, len) = (data.as_ptr(), data.len());
-            match unsafe { wenc_custom_section(handle, name.as_ptr(), name.len(), at, len) } {
-                Status::Done => Ok(0),
-                status => Err(status),
-            }
+            done(unsafe { wenc_custom_section(handle, name.as_ptr(), name.len(), at, len) })
+                .map(|()| 0)
         }
         Command::Component { .. } | Command::AppendNames | Command::RawCustom { .. } => {
             unreachable!("no row has it")

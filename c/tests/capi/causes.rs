@@ -3,12 +3,13 @@
 use super::edges::{EMPTY, Held};
 use std::collections::BTreeMap;
 use std::ffi::c_char;
-use std::{fs, mem, ptr};
+use std::{mem, ptr};
 use wenc::view::ItemView;
 use wenc::{
     Cause, DebugNames, Items, ListFault, NamesFault, NamesReader, ProducersFault, ProducersReader,
     Sections, Unread, list,
 };
+use wenc_calls::corpus;
 use wenc_calls::random::Random;
 use wenc_capi::Status;
 use wenc_capi::listing::*;
@@ -175,14 +176,8 @@ fn compare(bytes: &[u8], counts: &mut BTreeMap<&str, usize>) {
 
 /// The components of the corpus, and those that are nested in them.
 pub fn components() -> Vec<Vec<u8>> {
-    let folder = concat!(env!("CARGO_MANIFEST_DIR"), "/../real/corpus/wasm");
-    let mut files: Vec<_> = fs::read_dir(folder)
-        .expect("the corpus is there")
-        .map(|file| file.expect("a file").path())
-        .collect();
-    files.sort();
     let mut components = Vec::new();
-    let mut left: Vec<_> = files.iter().map(|file| fs::read(file).expect("its bytes")).collect();
+    let mut left: Vec<_> = corpus::components().into_iter().map(|(_, bytes)| bytes).collect();
     while let Some(bytes) = left.pop() {
         // some have canonical functions of other versions
         for item in Sections::new(&bytes).expect("a component").items().flatten() {

@@ -1,7 +1,7 @@
 //! Types with declarations, and core types, by the calls for C.
 
 use crate::called::{self, Done, called, called_with, pairs};
-use crate::edges::{Held, named};
+use crate::edges::{Held, done, named, written};
 use crate::numbers::{core_value, field, reference};
 use std::ptr;
 use wenc::tree::{
@@ -48,17 +48,12 @@ impl Types {
     fn finished(mut self) -> Held {
         let at = self.held.at();
         for space in Space::ALL {
-            let (mut count, number) = (77, space.number());
-            let status = unsafe { wenc_count(at, number as u32, &mut count) };
-            let expected = match self.spaces.contains(&space) {
-                true => (Status::Done, self.counts[number]),
-                false => (Status::BadArgument, 77),
-            };
-            assert_eq!((status, count), expected);
+            let (number, is_counted) = (space.number(), self.spaces.contains(&space));
+            let expected = is_counted.then_some(self.counts[number]).ok_or(Status::BadArgument);
+            assert_eq!(called!(wenc_count(at, number as u32)), expected);
         }
-        let mut len = 0;
         if self.spaces.len() > 1 {
-            assert_eq!((unsafe { wenc_len(at, &mut len) }, len), (Status::Done, self.len));
+            assert_eq!(written(|to| unsafe { wenc_len(at, to) }), Ok(self.len));
         }
         self.held
     }
@@ -125,10 +120,6 @@ fn module(declared: &[ModuleDecl]) -> Result<Held, Status> {
         }
     }
     Ok(types.finished())
-}
-
-fn done(status: Status) -> Result<(), Status> {
-    if status == Status::Done { Ok(()) } else { Err(status) }
 }
 
 /// Fields that aren't used have arbitrary values.

@@ -22,6 +22,16 @@ pub fn named(name: &str) -> Text {
     Text { at: name.as_ptr(), len: name.len() }
 }
 
+/// What a call writes, or its status.
+pub fn written<T>(call: impl FnOnce(*mut T) -> Status) -> Result<T, Status> {
+    let mut value = unsafe { mem::zeroed() };
+    done(call(&mut value)).map(|()| value)
+}
+
+pub fn done(status: Status) -> Result<(), Status> {
+    if status == Status::Done { Ok(()) } else { Err(status) }
+}
+
 /// A handle, which is freed.
 pub struct Held(Handle);
 
@@ -54,6 +64,12 @@ impl Held {
 
     pub fn types(kind: u32) -> Self {
         Self::new(|handle| unsafe { wenc_types_new(handle, kind) })
+    }
+
+    /// What these bytes are listed as.
+    pub fn listing(bytes: &[u8]) -> Self {
+        let (at, len) = (bytes.as_ptr(), bytes.len());
+        Self::new(|handle| unsafe { wenc_list(handle, at, len, ptr::null_mut()) })
     }
 
     pub fn is_nothing(&self) -> bool {
@@ -197,10 +213,8 @@ fn items_of_many_sections_are_found() {
     const SECTIONS: usize = 160_000;
     let custom = *b"\0\x02\x01a\x06\x01\0\x01\x08\0asm\x01\0\0\0";
     let bytes = [&b"\0asm\x0d\0\x01\0"[..], &custom.repeat(SECTIONS)].concat();
-    let mut listing = Held::nothing();
+    let mut listing = Held::listing(&bytes);
     let at = listing.at();
-    let status = unsafe { wenc_list(at, bytes.as_ptr(), bytes.len(), ptr::null_mut()) };
-    assert_eq!(status, Status::Done);
     let ((), requested) = requested(|| {
         for number in (0..20).flat_map(|_| 0..SECTIONS) {
             let mut module: ItemRow = unsafe { mem::zeroed() };

@@ -1,10 +1,10 @@
 //! Why a call failed: `wenc_last_error` after each call of the header that can fail.
 
-use super::edges::{EMPTY, Held, NONE};
+use super::edges::{EMPTY, Held, NONE, written};
 use std::collections::BTreeSet;
 use std::ffi::CStr;
+use std::ptr;
 use std::sync::LazyLock;
-use std::{mem, ptr};
 use wenc_capi::arguments::{Entity, Flag, IndexName, Name, Pair, Part, Producer, Subtype, Text};
 use wenc_capi::component_types::*;
 use wenc_capi::core_types::*;
@@ -30,8 +30,7 @@ fn calls() -> Vec<(&'static str, &'static str)> {
 
 /// Why the last call failed: the status, the argument, and the number of its member.
 pub fn last_error(handle: *const Handle) -> (u32, Option<&'static CStr>, usize) {
-    let mut error: ErrorRow = unsafe { mem::zeroed() };
-    assert_eq!(unsafe { wenc_last_error(handle, &mut error) }, Status::Done);
+    let error: ErrorRow = written(|to| unsafe { wenc_last_error(handle, to) }).expect("one");
     let is_named = !error.argument.is_null();
     let argument = is_named.then(|| unsafe { CStr::from_ptr(error.argument) });
     (error.status, argument, error.member)
@@ -79,16 +78,9 @@ fn finished() -> Held {
     builder
 }
 
-fn listed(bytes: &[u8]) -> Held {
-    let mut listing = Held::nothing();
-    let status = unsafe { wenc_list(listing.at(), bytes.as_ptr(), bytes.len(), ptr::null_mut()) };
-    assert_eq!(status, Status::Done);
-    listing
-}
-
 /// A section with a type.
 fn listing() -> Held {
-    listed(b"\0asm\x0d\0\x01\0\x07\x02\x01\x79")
+    Held::listing(b"\0asm\x0d\0\x01\0\x07\x02\x01\x79")
 }
 
 const NO: Flag = Flag(0);
@@ -479,7 +471,7 @@ fn what_is_too_large_is_named() {
         assert_eq!((call(held.at()) as u32, last_error(held.at())), (error.0, error), "{name}");
     }
     // twice as many values as have an index of 32 bits
-    let mut values = listed(
+    let mut values = Held::listing(
         b"\0asm\x0d\0\x01\0\x09\x07\0\0\xff\xff\xff\xff\x0f\
         \x09\x07\0\0\xff\xff\xff\xff\x0f",
     );

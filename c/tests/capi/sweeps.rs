@@ -2,10 +2,10 @@
 //! table's; and, with the results of the calls for Rust, by hand, with each allocation failing in
 //! turn, and read and added again.
 
-use crate::called::{Done, UNTOUCHED, call};
-use crate::edges::{Held, named};
+use crate::called::{Done, call, called};
+use crate::edges::{Held, named, written};
 use crate::walk::is_described;
-use std::{mem, ptr};
+use std::ptr;
 use wenc::ComponentBuilder;
 use wenc::tree::{Command, InstanceTree, Space};
 use wenc_calls::call::Call;
@@ -41,12 +41,8 @@ fn made(row: &Call, held: &mut Held, name: Option<&str>, size: &Size) -> Done {
 type Finished = ([u32; 13], Vec<u8>);
 
 fn counted(held: &mut Held) -> [u32; 13] {
-    Space::ALL.map(|space| {
-        let mut count = UNTOUCHED;
-        let status = unsafe { wenc_count(held.at(), space.number() as u32, &mut count) };
-        assert_eq!(status, Status::Done);
-        count
-    })
+    Space::ALL
+        .map(|space| called!(wenc_count(held.at(), space.number() as u32)).expect("it is counted"))
 }
 
 fn finished(mut held: Held) -> Finished {
@@ -173,8 +169,7 @@ fn with_items(row: &Call, size: &Size) -> Held {
     let (third, expected) =
         if row.own.is_some() { (Ok(2), 3) } else { (Err(Status::BadArgument), 2) };
     assert_eq!(made, [Ok(0), Ok(1), third], "{}", row.name);
-    let mut len = 0;
-    assert_eq!((unsafe { wenc_len(section.at(), &mut len) }, len), (Status::Done, expected));
+    assert_eq!(written(|to| unsafe { wenc_len(section.at(), to) }), Ok(expected));
     section
 }
 
@@ -207,23 +202,19 @@ fn each_is_read_and_added_again() {
         let (mut counts, defined) = ([0; 13], row.defines(&size));
         row.space.into_iter().for_each(|space| counts[space.number()] = defined);
         assert_eq!(counted(&mut listing), counts, "{}", row.name);
-        let (mut again, mut indices, text) = (Held::builder(), [UNTOUCHED; 2], named(&name));
-        let mut item: ItemRow = unsafe { mem::zeroed() };
-        let [one, two] = &mut indices;
-        unsafe {
-            let (to, from) = (again.at(), listing.at());
-            assert_eq!(wenc_item_at(from, 0, 0, &mut item), Status::Done, "{}", row.name);
-            assert_eq!(wenc_copy(to, &text, from, 0, 0, one), Status::Done, "{}", row.name);
-            let (at, len) = (bytes[item.place..].as_ptr(), item.len);
-            let status = wenc_item(to, row.id.into(), &text, at, len, two);
-            assert_eq!(status, Status::Done, "{}", row.name);
-        }
+        let (mut again, text) = (Held::builder(), named(&name));
+        let (to, from) = (again.at(), listing.at());
+        let item = written(|at| unsafe { wenc_item_at(from, 0, 0, at) });
+        let item: ItemRow = item.expect("an item");
+        let (at, len) = (bytes[item.place..].as_ptr(), item.len);
+        let copied = called!(wenc_copy(to, &text, from, 0, 0));
+        let indices = [copied, called!(wenc_item(to, row.id.into(), &text, at, len))];
         let space = row.space.map_or(13, |space| space.number() as u32);
         let places = (item.index, item.section, item.space, item.indices);
         assert_eq!(places, (0, row.id.into(), space, defined), "{}", row.name);
         is_described(&item, &(row.command)(Some(name.as_str().into()), &size));
         let (mut b, read) = (ComponentBuilder::default(), in_rust.items().next().expect("an item"));
-        let expected = [(); 2].map(|()| b.item(Some(&name), read).unwrap_or(0));
+        let expected = [(); 2].map(|()| Ok(b.item(Some(&name), read).unwrap_or(0)));
         assert_eq!(indices, expected, "{}", row.name);
         let counts = counts::counts(&b);
         b.append_names();

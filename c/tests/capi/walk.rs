@@ -1,6 +1,7 @@
 //! The walk over a component, and over its debug names.
 
-use super::edges::Held;
+use super::called::called;
+use super::edges::{Held, written};
 use super::numbers;
 use std::collections::BTreeMap;
 use std::ops::Range;
@@ -8,6 +9,7 @@ use std::{mem, ptr, slice, str};
 use wenc::tree::{AliasTree, Command, NameOptions, NameTree};
 use wenc::view::ItemView;
 use wenc::{ComponentTypeRef, SectionReader, Sections};
+use wenc_calls::corpus;
 use wenc_calls::refuse::requested;
 use wenc_capi::arguments::{Name, Text};
 use wenc_capi::component_types::wenc_type;
@@ -29,30 +31,21 @@ const COMPONENT: &[u8] = b"\0asm\x0d\0\x01\0\
     \x09\x03\0\0\x02";
 
 pub fn begun(bytes: &[u8]) -> Walk {
-    let mut walk = unsafe { mem::zeroed() };
-    let status = unsafe { wenc_walk_begin(&mut walk, bytes.as_ptr(), bytes.len()) };
-    assert_eq!(status, Status::Done);
-    walk
+    let begin = |to| unsafe { wenc_walk_begin(to, bytes.as_ptr(), bytes.len()) };
+    written(begin).expect("a component")
 }
 
 pub fn next_section(walk: &mut Walk) -> Result<SectionRow, Status> {
-    let mut row = unsafe { mem::zeroed() };
-    done(unsafe { wenc_walk_section(walk, &mut row) }).map(|()| row)
+    written(|to| unsafe { wenc_walk_section(walk, to) })
 }
 
 pub fn next_item(walk: &mut Walk) -> Result<ItemRow, Status> {
-    let mut row = unsafe { mem::zeroed() };
-    done(unsafe { wenc_walk_item(walk, &mut row) }).map(|()| row)
+    written(|to| unsafe { wenc_walk_item(walk, to) })
 }
 
 fn next_name(names: &mut NamesWalk) -> Result<(u32, u32, &'static str), Status> {
-    let mut name: DebugName = unsafe { mem::zeroed() };
-    done(unsafe { wenc_walk_name(names, &mut name) })?;
+    let name: DebugName = written(|to| unsafe { wenc_walk_name(names, to) })?;
     Ok((name.space, name.index, text(name.name).expect("a name")))
-}
-
-fn done(status: Status) -> Result<(), Status> {
-    if status == Status::Done { Ok(()) } else { Err(status) }
 }
 
 /// A text that was written, while its bytes exist.
@@ -180,9 +173,8 @@ fn a_walk_goes_on_behind_what_it_cannot_read() {
     assert_eq!(walk.next_section, 14);
     // The items before it are unchanged.
     assert_eq!(next_item(&mut walk).err(), Some(Status::BadItem));
-    let mut skipped: SectionRow = unsafe { mem::zeroed() };
-    assert_eq!(unsafe { wenc_walk_skip(&mut walk, &mut skipped) }, Status::Done);
-    assert_eq!(section(skipped), [14, 3, 16, 0, 12]);
+    let skipped = written(|to| unsafe { wenc_walk_skip(&mut walk, to) });
+    assert_eq!(skipped.map(section), Ok([14, 3, 16, 0, 12]));
     assert_eq!(next_item(&mut walk).err(), Some(Status::End));
     assert_eq!(next_section(&mut walk).err(), Some(Status::BadItem));
     assert_eq!(unsafe { wenc_walk_skip(&mut walk, ptr::null_mut()) }, Status::Done);
@@ -288,8 +280,7 @@ fn custom(name: &[u8], data: &[u8]) -> (Vec<u8>, ItemRow) {
 
 fn names_in(data: &[u8]) -> (Vec<(u32, u32, &'static str)>, Status) {
     let (_bytes, item) = custom(b"component-name", data);
-    let mut walk = unsafe { mem::zeroed() };
-    assert_eq!(unsafe { wenc_walk_names(&mut walk, &item) }, Status::Done);
+    let mut walk = written(|to| unsafe { wenc_walk_names(to, &item) }).expect("names");
     let mut names = Vec::new();
     loop {
         match next_name(&mut walk) {
@@ -324,18 +315,16 @@ fn debug_names_are_read() {
 /// A listing has the sections and rows of the walk, with indices; its texts are its own.
 #[test]
 fn a_listing_has_the_rows_of_the_walk() {
-    let (mut copy, mut listing, mut walk) = (COMPONENT.to_vec(), Held::nothing(), begun(COMPONENT));
-    let (at, len, none) = (copy.as_ptr(), copy.len(), ptr::null_mut());
-    assert_eq!(unsafe { wenc_list(listing.at(), at, len, ptr::null_mut()) }, Status::Done);
+    let mut copy = COMPONENT.to_vec();
+    let (mut listing, mut walk) = (Held::listing(&copy), begun(COMPONENT));
     copy.fill(0xff);
-    let (at, mut indices) = (listing.at(), Vec::new());
+    let (at, none, mut indices) = (listing.at(), ptr::null_mut(), Vec::new());
     for number in 0..7 {
-        let mut listed: SectionRow = unsafe { mem::zeroed() };
-        assert_eq!(unsafe { wenc_section_at(at, number, &mut listed) }, Status::Done);
+        let listed = written(|to| unsafe { wenc_section_at(at, number, to) }).expect("a section");
         assert_eq!(next_section(&mut walk).map(section), Ok(section(listed)));
         for item in 0..listed.items {
-            let mut row: ItemRow = unsafe { mem::zeroed() };
-            assert_eq!(unsafe { wenc_item_at(at, number, item, &mut row) }, Status::Done);
+            let row = written(|to| unsafe { wenc_item_at(at, number, item, to) });
+            let row: ItemRow = row.expect("an item");
             let expected = next_item(&mut walk).expect("an item");
             assert_eq!((places(&row), texts(row.name)), (places(&expected), texts(expected.name)));
             assert_eq!((rest(&row), row.bytes_len), (rest(&expected), expected.bytes_len));
@@ -345,10 +334,10 @@ fn a_listing_has_the_rows_of_the_walk() {
         assert_eq!(status, Status::BadArgument);
     }
     assert_eq!(indices, [0, 0, 1, 0, 0, 2, 0, 0, 0]);
-    let (mut builder, mut len) = (Held::builder(), 0);
+    let mut builder = Held::builder();
     let to = builder.at();
     unsafe {
-        assert_eq!((wenc_len(at, &mut len), len), (Status::Done, 7));
+        assert_eq!(written(|to| wenc_len(at, to)), Ok(7));
         assert_eq!(wenc_section_at(at, 7, ptr::null_mut()), Status::BadArgument);
         assert_eq!(wenc_item_at(at, 7, 0, ptr::null_mut()), Status::BadArgument);
         assert_eq!(wenc_copy(to, ptr::null(), at, 1, 1, none), Status::BadArgument);
@@ -405,18 +394,13 @@ fn readers_at_a_time() {
             assert_eq!(builder.finished().len(), 8 + 5 + 200 * 11);
         }
     }
-    let (mut listing, mut finished, mut types) = (Held::nothing(), Held::builder(), Held::types(5));
-    let (mut at, mut len) = (ptr::null(), 0);
+    let (mut listing, mut types) = (Held::listing(COMPONENT), Held::types(5));
+    let (mut finished, none) = (Held::builder(), ptr::null_mut());
+    let module = b"xyz".as_ptr();
     unsafe {
-        let (at, len) = (COMPONENT.as_ptr(), COMPONENT.len());
-        assert_eq!(wenc_list(listing.at(), at, len, ptr::null_mut()), Status::Done);
-        let (at, len) = (b"xyz".as_ptr(), 3);
-        assert_eq!(
-            wenc_core_module(finished.at(), ptr::null(), at, len, ptr::null_mut()),
-            Status::Done
-        );
+        assert_eq!(wenc_core_module(finished.at(), ptr::null(), module, 3, none), Status::Done);
+        assert_eq!(wenc_finish(finished.at(), ptr::null_mut(), ptr::null_mut()), Status::Done);
     }
-    assert_eq!(unsafe { wenc_finish(finished.at(), &mut at, &mut len) }, Status::Done);
     let expected = b"\0asm\x0d\0\x01\0\x01\x03xyz";
     let shared = Shared(listing.at(), finished.at(), types.at());
     std::thread::scope(|scope| {
@@ -472,8 +456,7 @@ fn is_item(row: &ItemRow, range: Range<usize>, view: ItemView<'_>) {
 fn names_of_items(rows: &[ItemRow]) -> BTreeMap<(u32, u32), &'static str> {
     let mut names = BTreeMap::new();
     for row in rows {
-        let mut walk = unsafe { mem::zeroed() };
-        if unsafe { wenc_walk_names(&mut walk, row) } == Status::Done {
+        if let Ok(mut walk) = written(|to| unsafe { wenc_walk_names(to, row) }) {
             while let Ok((space, index, name)) = next_name(&mut walk) {
                 names.entry((space, index)).or_insert(name);
             }
@@ -511,32 +494,23 @@ fn recursion_groups_define_an_index_for_each_type() {
     let (rows, status) = items(bytes);
     let defined = |rows: &[ItemRow]| rows.iter().map(|row| (row.space, row.indices)).collect();
     assert_eq!((defined(&rows), status), (vec![(2, 3), (2, 1)], Status::End));
-    let (mut listing, mut builder) = (Held::nothing(), Held::builder());
+    let (mut listing, mut builder) = (Held::listing(bytes), Held::builder());
     let (from, to) = (listing.at(), builder.at());
-    let (mut count, mut rows) = (7, Vec::new());
-    unsafe {
-        assert_eq!(wenc_list(from, bytes.as_ptr(), bytes.len(), ptr::null_mut()), Status::Done);
-        assert_eq!((wenc_count(from, 2, &mut count), count), (Status::Done, 4));
-        for number in [0, 1] {
-            let (mut row, mut index): (ItemRow, _) = (mem::zeroed(), 7);
-            assert_eq!(wenc_item_at(from, 0, number, &mut row), Status::Done);
-            rows.push(row);
-            let status = wenc_copy(to, ptr::null(), from, 0, number, &mut index);
-            assert_eq!((status, index), (Status::Done, number as u32));
-        }
-        assert_eq!((wenc_count(to, 2, &mut count), count), (Status::Done, 2));
-    }
+    assert_eq!(called!(wenc_count(from, 2)), Ok(4));
+    let rows = [0, 1].map(|number| {
+        assert_eq!(called!(wenc_copy(to, ptr::null(), from, 0, number)), Ok(number as u32));
+        written(|at| unsafe { wenc_item_at(from, 0, number, at) }).expect("an item")
+    });
+    assert_eq!(called!(wenc_count(to, 2)), Ok(2));
     assert_eq!(rows.iter().map(|row| row.index).collect::<Vec<_>>(), [0, 3]);
     assert_eq!(defined(&rows), [(2, 3), (2, 1)]);
 }
 
 #[test]
 fn components_are_read_as_in_rust() {
-    let folder = concat!(env!("CARGO_MANIFEST_DIR"), "/../real/corpus/wasm");
-    let files = std::fs::read_dir(folder).expect("the corpus is there");
-    let read = files.map(|file| std::fs::read(file.expect("a file").path()).expect("its bytes"));
     let (mut items_len, mut names_len) = (0, 0);
-    for bytes in read.chain([COMPONENT.to_vec()]) {
+    let components = corpus::components().into_iter().map(|(_, bytes)| bytes);
+    for bytes in components.chain([COMPONENT.to_vec()]) {
         let Ok(sections) = Sections::new(&bytes) else { continue };
         let (items, names) = is_read_as_in_rust(&bytes, sections);
         (items_len, names_len) = (items_len + items, names_len + names);
