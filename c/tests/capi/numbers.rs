@@ -5,23 +5,25 @@ use wenc::tree::{
 };
 use wenc::*;
 
-pub fn primitive(ty: PrimitiveValType) -> u32 {
-    match ty {
-        PrimitiveValType::Bool => 1,
-        PrimitiveValType::S8 => 2,
-        PrimitiveValType::U8 => 3,
-        PrimitiveValType::S16 => 4,
-        PrimitiveValType::U16 => 5,
-        PrimitiveValType::S32 => 6,
-        PrimitiveValType::U32 => 7,
-        PrimitiveValType::S64 => 8,
-        PrimitiveValType::U64 => 9,
-        PrimitiveValType::F32 => 10,
-        PrimitiveValType::F64 => 11,
-        PrimitiveValType::Char => 12,
-        PrimitiveValType::String => 13,
-        PrimitiveValType::ErrorContext => 14,
+/// Functions from a type of Rust to the numbers of its values.
+macro_rules! numbers {
+    ($($name:ident $of:ident { $($variant:ident $number:literal),* })*) => {$(
+        pub fn $name(value: $of) -> u32 {
+            match value {
+                $($of::$variant => $number),*
+            }
+        }
+    )*};
+}
+
+numbers! {
+    primitive PrimitiveValType {
+        Bool 1, S8 2, U8 3, S16 4, U16 5, S32 6, U32 7, S64 8, U64 9, F32 10, F64 11, Char 12,
+        String 13, ErrorContext 14
     }
+    kind ComponentExportKind { Module 0, Func 1, Value 2, Type 3, Component 4, Instance 5 }
+    core_kind ExportKind { Func 0, Table 1, Memory 2, Global 3, Tag 4 }
+    outer_kind ComponentOuterAliasKind { CoreModule 0, CoreType 1, Type 2, Component 3 }
 }
 
 pub fn value(ty: ComponentValType) -> (u32, u32) {
@@ -45,36 +47,6 @@ pub fn type_ref(ty: ComponentTypeRef) -> (u32, u32) {
         ComponentTypeRef::Type(TypeBounds::SubResource) => (7, 99),
         ComponentTypeRef::Component(index) => (5, index),
         ComponentTypeRef::Instance(index) => (6, index),
-    }
-}
-
-pub fn kind(kind: ComponentExportKind) -> u32 {
-    match kind {
-        ComponentExportKind::Module => 0,
-        ComponentExportKind::Func => 1,
-        ComponentExportKind::Value => 2,
-        ComponentExportKind::Type => 3,
-        ComponentExportKind::Component => 4,
-        ComponentExportKind::Instance => 5,
-    }
-}
-
-pub fn core_kind(kind: ExportKind) -> u32 {
-    match kind {
-        ExportKind::Func => 0,
-        ExportKind::Table => 1,
-        ExportKind::Memory => 2,
-        ExportKind::Global => 3,
-        ExportKind::Tag => 4,
-    }
-}
-
-pub fn outer_kind(kind: ComponentOuterAliasKind) -> u32 {
-    match kind {
-        ComponentOuterAliasKind::CoreModule => 0,
-        ComponentOuterAliasKind::CoreType => 1,
-        ComponentOuterAliasKind::Type => 2,
-        ComponentOuterAliasKind::Component => 3,
     }
 }
 
@@ -152,55 +124,32 @@ pub fn builtin_with(canon: &CanonTree) -> Option<(u32, u32, &[CanonicalOption])>
 }
 
 /// The number of a builtin, and its two arguments: one that it doesn't take is arbitrary.
-pub fn builtin(canon: &CanonTree) -> Option<(u32, u32, u32)> {
-    use wenc::tree::CanonOf::*;
-    let numbers = match *canon {
-        ResourceNew(ty) => (1, ty, 77),
-        ResourceDrop(ty) => (2, ty, 77),
-        ResourceRep(ty) => (3, ty, 77),
-        SubtaskCancel(is_async) => (5, is_async.into(), 77),
-        StreamNew(ty) => (8, ty, 77),
-        StreamCancelRead { ty, async_ } => (9, ty, async_.into()),
-        StreamCancelWrite { ty, async_ } => (10, ty, async_.into()),
-        StreamDropReadable(ty) => (11, ty, 77),
-        StreamDropWritable(ty) => (12, ty, 77),
-        FutureNew(ty) => (13, ty, 77),
-        FutureCancelRead { ty, async_ } => (14, ty, async_.into()),
-        FutureCancelWrite { ty, async_ } => (15, ty, async_.into()),
-        FutureDropReadable(ty) => (16, ty, 77),
-        FutureDropWritable(ty) => (17, ty, 77),
-        WaitableSetWait(memory) => (20, memory, 77),
-        WaitableSetPoll(memory) => (21, memory, 77),
-        ThreadNewIndirect { ty, table } => (27, ty, table),
-        StreamForward(ty) => (34, ty, 77),
-        FutureForward(ty) => (35, ty, 77),
-        ThreadSpawnRef(ty) => (36, ty, 77),
-        ThreadSpawnIndirect { ty, table } => (37, ty, table),
-        _ => return plain_builtin(canon).map(|number| (number, 77, 77)),
+macro_rules! builtins {
+    ($($number:literal $name:ident $(($only:ident))? $({ $one:ident, $other:ident })?),*) => {
+        pub fn builtin(canon: &CanonTree) -> Option<(u32, u32, u32)> {
+            match *canon {
+                $(CanonTree::$name $(($only))? $({ $one, $other })? => {
+                    let given =
+                        [$(u32::from($only),)? $(u32::from($one), u32::from($other),)? 77, 77];
+                    Some(($number, given[0], given[1]))
+                })*
+                _ => None,
+            }
+        }
     };
-    Some(numbers)
 }
 
-fn plain_builtin(canon: &CanonTree) -> Option<u32> {
-    use wenc::tree::CanonOf::*;
-    Some(match canon {
-        TaskCancel => 4,
-        ThreadYield => 6,
-        SubtaskDrop => 7,
-        ErrorContextDrop => 18,
-        WaitableSetNew => 19,
-        WaitableSetDrop => 22,
-        WaitableJoin => 23,
-        BackpressureInc => 24,
-        BackpressureDec => 25,
-        ThreadIndex => 26,
-        ThreadResumeLater => 28,
-        ThreadSuspend => 29,
-        ThreadSuspendThenResume => 30,
-        ThreadYieldThenResume => 31,
-        ThreadSuspendThenPromote => 32,
-        ThreadYieldThenPromote => 33,
-        ThreadAvailableParallelism => 38,
-        _ => return None,
-    })
+builtins! {
+    1 ResourceNew(ty), 2 ResourceDrop(ty), 3 ResourceRep(ty), 4 TaskCancel,
+    5 SubtaskCancel(is_async), 6 ThreadYield, 7 SubtaskDrop, 8 StreamNew(ty),
+    9 StreamCancelRead { ty, async_ }, 10 StreamCancelWrite { ty, async_ },
+    11 StreamDropReadable(ty), 12 StreamDropWritable(ty), 13 FutureNew(ty),
+    14 FutureCancelRead { ty, async_ }, 15 FutureCancelWrite { ty, async_ },
+    16 FutureDropReadable(ty), 17 FutureDropWritable(ty), 18 ErrorContextDrop, 19 WaitableSetNew,
+    20 WaitableSetWait(memory), 21 WaitableSetPoll(memory), 22 WaitableSetDrop, 23 WaitableJoin,
+    24 BackpressureInc, 25 BackpressureDec, 26 ThreadIndex, 27 ThreadNewIndirect { ty, table },
+    28 ThreadResumeLater, 29 ThreadSuspend, 30 ThreadSuspendThenResume, 31 ThreadYieldThenResume,
+    32 ThreadSuspendThenPromote, 33 ThreadYieldThenPromote, 34 StreamForward(ty),
+    35 FutureForward(ty), 36 ThreadSpawnRef(ty), 37 ThreadSpawnIndirect { ty, table },
+    38 ThreadAvailableParallelism
 }
