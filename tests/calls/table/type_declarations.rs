@@ -18,16 +18,19 @@ fn around((space, scope, index): Seen) -> Seen {
     (space, scope, index)
 }
 
-/// The declaration of a command's item.
-fn declaration(command: Command, lead: u8) -> ComponentDecl {
-    ComponentDecl::Decl(match (command, lead) {
-        (Command::Import { name, ty }, 0x03) => return ComponentDecl::Import { name, ty },
-        (Command::Import { name, ty }, _) => InstanceDecl::Export { name, ty },
-        (Command::CoreType { ty, .. }, _) => InstanceDecl::CoreType((*ty).clone()),
-        (Command::Type { ty, .. }, _) => InstanceDecl::Type(ty),
-        (Command::Alias { alias, .. }, _) => InstanceDecl::Alias(alias),
-        _ => unreachable!("it is declared"),
-    })
+/// The declarations of a command's item, each with its first byte.
+pub fn declarations(command: Command) -> Vec<(u8, ComponentDecl)> {
+    let decl = |lead, decl| vec![(lead, ComponentDecl::Decl(decl))];
+    match command {
+        Command::CoreType { ty, .. } => decl(0x00, InstanceDecl::CoreType((*ty).clone())),
+        Command::Type { ty, .. } => decl(0x01, InstanceDecl::Type(ty)),
+        Command::Alias { alias, .. } => decl(0x02, InstanceDecl::Alias(alias)),
+        Command::Import { name, ty } => {
+            let export = decl(0x04, InstanceDecl::Export { name: name.clone(), ty });
+            [vec![(0x03, ComponentDecl::Import { name, ty })], export].concat()
+        }
+        _ => vec![],
+    }
 }
 
 fn in_instance(declaration: ComponentDecl) -> InstanceDecl {
@@ -70,7 +73,10 @@ impl Of {
     fn tree(&self, a: &Size) -> TypeTree {
         calmly(|| {
             let (lead, _) = self.call.declares[self.way];
-            let declared = || declaration((self.call.command)(None, a), lead);
+            let declared = || {
+                let mut all = declarations((self.call.command)(None, a)).into_iter();
+                all.find(|(of, _)| *of == lead).expect("it is declared").1
+            };
             if self.is_instance {
                 TypeTree::Instance((0..self.times(a)).map(|_| in_instance(declared())).collect())
             } else {
