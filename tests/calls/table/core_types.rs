@@ -99,62 +99,39 @@ struct Shape {
     write: fn(CoreTypeEncoder<'_>, &Size) -> Done,
 }
 
-static SHAPES: [Shape; 9] = [
-    Shape {
-        name: "core function",
-        is_group: false,
-        types: |a| vec![subtype(true, None, function(a))],
-        write: |ty, a| ty.try_function(a.list(|at| value(a, at)), a.list(|at| value(a, at + 1))),
-    },
-    Shape {
-        name: "core function without parameters",
-        is_group: false,
-        types: |a| vec![subtype(true, None, results(a))],
-        write: |ty, a| ty.try_function([], a.list(|at| value(a, at + 1))),
-    },
-    Shape {
-        name: "core function as a value",
-        is_group: false,
-        types: |a| vec![subtype(true, None, function(a))],
-        write: |ty, a| ty.try_func_type(&calmly(|| func_type(a))),
-    },
-    Shape {
-        name: "struct",
-        is_group: false,
-        types: |a| vec![subtype(true, None, structure(a))],
-        write: |ty, a| ty.try_struct(a.list(|at| field(a, at))),
-    },
-    Shape {
-        name: "array",
-        is_group: false,
-        types: |a| vec![subtype(true, None, array(a))],
-        write: |ty, a| ty.try_array(&element(a).element_type, a.flag),
-    },
-    Shape {
-        name: "open function",
-        is_group: false,
-        types: |a| vec![subtype(false, None, function(a))],
-        write: |ty, a| ty.try_subtype(&calmly(|| subtype(false, None, function(a)))),
-    },
-    Shape {
-        name: "subtype",
-        is_group: false,
-        types: |a| vec![subtype(false, Some(a.second), structure(a))],
-        write: |ty, a| ty.try_subtype(&calmly(|| subtype(false, Some(a.second), structure(a)))),
-    },
-    Shape {
-        name: "final subtype",
-        is_group: false,
-        types: |a| vec![subtype(true, Some(a.index), array(a))],
-        write: |ty, a| ty.try_subtype(&calmly(|| subtype(true, Some(a.index), array(a)))),
-    },
-    Shape {
-        name: "recursion group",
-        is_group: true,
-        types: |a| (0..a.count).map(|at| member(a, at)).collect(),
-        write: |ty, a| ty.try_rec(a.list(|at| calmly(|| member(a, at)))),
-    },
-];
+/// Types by themselves, then a group.
+macro_rules! shapes {
+    ($($name:literal |$ty:ident, $a:ident| $subtype:expr, $write:expr;)*) => {
+        [$(Shape {
+            name: $name,
+            is_group: false,
+            types: |$a| vec![$subtype],
+            write: |$ty, $a| $write,
+        },)* Shape {
+            name: "recursion group",
+            is_group: true,
+            types: |a| (0..a.count).map(|at| member(a, at)).collect(),
+            write: |ty, a| ty.try_rec(a.list(|at| calmly(|| member(a, at)))),
+        }]
+    };
+}
+
+static SHAPES: [Shape; 9] = shapes! {
+    "core function" |ty, a| subtype(true, None, function(a)),
+        ty.try_function(a.list(|at| value(a, at)), a.list(|at| value(a, at + 1)));
+    "core function without parameters" |ty, a| subtype(true, None, results(a)),
+        ty.try_function([], a.list(|at| value(a, at + 1)));
+    "core function as a value" |ty, a| subtype(true, None, function(a)),
+        ty.try_func_type(&calmly(|| func_type(a)));
+    "struct" |ty, a| subtype(true, None, structure(a)), ty.try_struct(a.list(|at| field(a, at)));
+    "array" |ty, a| subtype(true, None, array(a)), ty.try_array(&element(a).element_type, a.flag);
+    "open function" |ty, a| subtype(false, None, function(a)),
+        ty.try_subtype(&calmly(|| subtype(false, None, function(a))));
+    "subtype" |ty, a| subtype(false, Some(a.second), structure(a)),
+        ty.try_subtype(&calmly(|| subtype(false, Some(a.second), structure(a))));
+    "final subtype" |ty, a| subtype(true, Some(a.index), array(a)),
+        ty.try_subtype(&calmly(|| subtype(true, Some(a.index), array(a))));
+};
 
 impl Shape {
     fn tree(&self, a: &Size) -> GroupTree {
