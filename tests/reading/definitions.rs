@@ -7,8 +7,8 @@ use wenc::tree::Space;
 use wenc::view::{InstanceView, ItemView, ModuleDeclView, TypeView};
 use wenc::{Cause, ComponentTypeRef, ListFault, Unread};
 
-fn read(component: &[u8]) -> Definitions<'_> {
-    Definitions::new(component, 100).expect("it is read")
+fn read(component: Vec<u8>) -> Definitions<'static> {
+    Definitions::new(component.leak(), 100).expect("it is read")
 }
 
 /// The byte offset of what an index is in the end.
@@ -32,21 +32,18 @@ fn many(id: u8, members: &[&[u8]]) -> Vec<u8> {
 /// of one in it, of a component type and of an instance type. The last two have a type before.
 fn in_each_scope(types: &[&[u8]], aliases: &[&[u8]], check: impl Fn(Scope<'_, '_>)) {
     let instance = section(10, b"\x01\0\x01x\x05\0");
-    check(
-        read(&component(&[many(7, types), instance.clone(), many(6, aliases)].concat()))
-            .component(),
-    );
+    let all = [many(7, types), instance.clone(), many(6, aliases)].concat();
+    check(read(component(&all)).component());
     let outer = many(6, &[b"\x03\x02\x01\0"]);
     let within = nested(&[outer, instance, many(6, aliases)].concat());
     let all = component(&[many(7, types), within].concat());
-    check(inner(read(&all).component(), Space::Components, 0));
+    check(inner(read(all).component(), Space::Components, 0));
     for kind in [0x41, 0x42] {
         let count = u8::try_from(aliases.len() + 2).expect("they are few");
         let front = [&[kind, count][..], b"\x02\x03\x02\x01\0\x04\0\x01x\x05\0"].concat();
         let declared = aliases.iter().flat_map(|of| [b"\x02", *of].concat());
         let ty: Vec<u8> = front.into_iter().chain(declared).collect();
-        let all = component(&many(7, &[types, &[&ty]].concat()));
-        let all = read(&all);
+        let all = read(component(&many(7, &[types, &[&ty]].concat())));
         let last = u32::try_from(types.len()).expect("they are few");
         check(inner(all.component(), Space::Types, last));
     }
@@ -120,8 +117,7 @@ fn outer_items() {
     let items = |count| many(6, &aliases(count).each_ref().map(Vec::as_slice));
     // of the component itself, of the one around it, and of the one around that
     let two = nested(&nested(&items(2)));
-    let all = component(&[outermost(), items(0), nested(&items(1)), two].concat());
-    let all = read(&all);
+    let all = read(component(&[outermost(), items(0), nested(&items(1)), two].concat()));
     // components 0 and 1 are the item and its alias, before those with aliases
     has_aliases(all.component().get(Space::Components, 2).unwrap().scope(), 0);
     has_aliases(inner(all.component(), Space::Components, 2), 1);
@@ -137,8 +133,7 @@ fn outer_items() {
         };
         let innermost = [&[1, kinds[1], 4][..], &declared(2)].concat();
         let ty = [&[kinds[0], 5][..], &declared(1), &innermost].concat();
-        let all = component(&[outermost(), many(7, &[&ty])].concat());
-        let all = read(&all);
+        let all = read(component(&[outermost(), many(7, &[&ty])].concat()));
         let ty = all.component().get(Space::Types, 1).unwrap();
         let (scope, types) = (ty.inner().unwrap(), ty.inner().unwrap().count(Space::Types));
         assert_eq!(types, 2);
@@ -151,8 +146,7 @@ fn outer_items() {
 #[test]
 fn outer_core_types() {
     let core = many(3, &[b"\x60\0\0", b"\x50\x02\x02\x10\x01\x01\0\x03\x01e\0\0"]);
-    let all = component(&core);
-    let all = read(&all);
+    let all = read(component(&core));
     let module = inner(all.component(), Space::CoreTypes, 1);
     assert_eq!(resolved(module, Space::CoreTypes, 0), Ok(11));
     let export = module.export("e").expect("it is declared");
@@ -160,8 +154,7 @@ fn outer_core_types() {
     assert!(matches!(export.meaning(), Meaning::Module(ModuleDeclView::Export { .. })));
 
     let ty = b"\x42\x01\0\x50\x01\x02\x10\x01\x02\0";
-    let all = component(&[many(3, &[b"\x60\0\0"]), many(7, &[ty])].concat());
-    let all = read(&all);
+    let all = read(component(&[many(3, &[b"\x60\0\0"]), many(7, &[ty])].concat()));
     let ty = inner(all.component(), Space::Types, 0);
     let module = inner(ty, Space::CoreTypes, 0);
     assert_eq!(resolved(module, Space::CoreTypes, 0), Ok(11));
@@ -186,8 +179,7 @@ fn exports_of_core_instances() {
     let import = section(10, b"\x01\0\x01m\0\x11\0");
     let front = [many(3, &[module]), import, many(2, &[b"\0\0\0"]), items(0)].concat();
     let all = component(&[&front[..], &many(2, &[&list]), &items(1)].concat());
-    let (all, inside) = (read(&all), component(&nested(&front)));
-    let inside = read(&inside);
+    let (all, inside) = (read(all), read(component(&nested(&front))));
     let inside = inner(inside.component(), Space::Components, 0);
     for (_, name, space, place) in kinds {
         for index in [0, 1] {
@@ -202,8 +194,7 @@ fn exports_of_core_instances() {
     // the bytes of a module aren't read: an alias of what it exports is no other
     let module = section(1, b"\0asm\x01\0\0\0");
     let core = many(2, &[b"\0\0\0", b"\0\0\x01\x01a\x12\0"]);
-    let all = component(&[module, core, items(0)].concat());
-    let all = read(&all);
+    let all = read(component(&[module, core, items(0)].concat()));
     let alias = all.component().get(Space::CoreTables, 0).unwrap();
     assert_eq!((alias.target(), alias.resolve()), (Ok(None), Ok(alias)));
     let argument = inner(all.component(), Space::CoreInstances, 1);
@@ -226,8 +217,7 @@ fn exporting() -> Vec<u8> {
 /// Exports of instances of a component, of lists, and of what is exported again.
 #[test]
 fn exports_of_components() {
-    let all = exporting();
-    let all = read(&all);
+    let all = read(exporting());
     let scope = all.component();
     // the type in the component in the component
     for index in [0, 1, 2] {
@@ -271,8 +261,7 @@ fn exports_of_components() {
 fn types_of_definitions() {
     // type 0 is a function's, types 1 and 2 are imports of the same, and so is function 0's
     let imports = b"\x04\0\x01a\x03\0\0\0\x01b\x03\0\x01\0\x01f\x01\x02\0\x01r\x03\x01";
-    let all = component(&[many(7, &[b"\x40\0\x01\0"]), section(10, imports)].concat());
-    let all = read(&all);
+    let all = read(component(&[many(7, &[b"\x40\0\x01\0"]), section(10, imports)].concat()));
     let scope = all.component();
     assert_eq!([1, 2].map(|index| resolved(scope, Space::Types, index)), [Ok(11); 2]);
     let function = scope.get(Space::Funcs, 0).unwrap();
@@ -291,8 +280,7 @@ fn ascribed_types() {
     let imports = many(10, &[b"\0\x01a\x01\0", b"\0\x01b\x01\x01"]);
     let exports: [&[u8]; 3] =
         [b"\0\x01c\x01\0\x01\x01\x01", b"\0\x01d\x01\x02\0", b"\0\x01e\x01\x01\0"];
-    let all = component(&[types, imports, many(11, &exports)].concat());
-    let all = read(&all);
+    let all = read(component(&[types, imports, many(11, &exports)].concat()));
     let ty = |index| {
         let function = all.component().get(Space::Funcs, index).unwrap();
         function.ty().unwrap().and_then(Definition::index)
@@ -350,8 +338,8 @@ fn cases() -> Vec<(Vec<u8>, ScopeFault, String)> {
 }
 
 /// Reads a component past its faults. Returns the number of these.
-fn past_faults(component: &[u8]) -> (Definitions<'_>, usize) {
-    let mut faults = Vec::new();
+fn past_faults(component: Vec<u8>) -> (Definitions<'static>, usize) {
+    let (mut faults, component) = (Vec::new(), component.leak());
     let definitions = Definitions::past_faults(component, 100, |fault| faults.push(fault));
     assert_eq!(faults.first().copied(), Definitions::new(component, 100).err());
     (definitions, faults.len())
@@ -373,12 +361,11 @@ fn past_a_fault() {
         ([&ty[..], &section(7, b"\x02\x79\x07"), &ty].concat(), u64::MAX, 1),
         (b"\x0c\0".to_vec(), 0, 1),
     ] {
-        let all = component(&sections);
-        let (definitions, found) = past_faults(&all);
+        let (definitions, found) = past_faults(component(&sections));
         let count = definitions.component().count(Space::Types);
         assert_eq!((found, count), (faults, types), "{sections:x?}");
     }
-    let (nothing, faults) = past_faults(b"");
+    let (nothing, faults) = past_faults(Vec::new());
     assert!(faults == 1 && nothing.component().definitions().next().is_none());
 }
 
@@ -411,8 +398,7 @@ fn indices_after_a_fault() {
     let (place, space) = (31, Space::Funcs);
     // the last one of both may be a lifted function, if there is a core function 0, or none
     for core in [0, 2] {
-        let all = lifting(core);
-        let (definitions, _) = past_faults(&all);
+        let (definitions, _) = past_faults(lifting(core));
         let scope = definitions.component();
         let export = scope.export("f").expect("it is read");
         let fault = ScopeFault::Unread { place, space, unread: 18 };
@@ -425,8 +411,8 @@ fn indices_after_a_fault() {
     }
     // nor are they after aliases or imports that can't be read, if functions are core functions
     for between in [b"\x06\x02\x01\xff", b"\x0a\x02\x01\xff"] {
-        let all = lifting_after(&[b"\x08\x02\x01\xff", &between[..]].concat(), 0);
-        let (definitions, faults) = past_faults(&all);
+        let (definitions, faults) =
+            past_faults(lifting_after(&[b"\x08\x02\x01\xff", &between[..]].concat(), 0));
         let export = definitions.component().export("f").expect("it is read");
         let fault = ScopeFault::Unread { place: 34, space, unread: 18 };
         assert_eq!((faults, export.target(), export.index()), (2, Err(fault), None));
@@ -434,10 +420,9 @@ fn indices_after_a_fault() {
     // neither is an export of an instance whose component has exports that can't be read, at 21
     let aliased = |inner: Vec<u8>| {
         let sections = [nested(&inner), many(5, &[b"\0\0\0"]), many(6, &[b"\x01\0\0\x01f"])];
-        let all = component(&sections.concat());
-        let target =
-            past_faults(&all).0.component().get(space, 0).expect("an alias").target().err();
-        target.expect("it isn't followed")
+        let (all, _) = past_faults(component(&sections.concat()));
+        let alias = all.component().get(space, 0).expect("an alias");
+        alias.target().expect_err("it isn't followed")
     };
     let exports = aliased(section(11, b"\x01\xff"));
     assert_eq!(exports, ScopeFault::Unread { place: 31, space, unread: 21 });
@@ -448,8 +433,7 @@ fn indices_after_a_fault() {
 /// They are known once the last core function is referred to that there can be.
 #[test]
 fn indices_after_core_functions() {
-    let all = lifting(1);
-    let (definitions, _) = past_faults(&all);
+    let (definitions, _) = past_faults(lifting(1));
     let scope = definitions.component();
     let export = scope.export("f").expect("it is read");
     assert_eq!(export.resolve().map(|of| (of.place(), of.index())), Ok((23, Some(0))));
@@ -476,24 +460,22 @@ fn cycles() {
     // a declared type that is itself, and an alias of it
     let ty = b"\x42\x01\x04\0\x01t\x03\0\0";
     let import = section(10, b"\x01\0\x01i\x05\0");
-    let all = component(&[many(7, &[ty]), import, many(6, &[b"\x03\0\0\x01t"])].concat());
-    let all = read(&all);
+    let all = read(component(&[many(7, &[ty]), import, many(6, &[b"\x03\0\0\x01t"])].concat()));
     let declared = inner(all.component(), Space::Types, 0).export("t").expect("it is declared");
     is_cycle(declared, 13, Space::Types, 0);
     assert_eq!(all.component().resolve(Space::Types, 1).err(), declared.resolve().err());
     // a component with an alias of itself, and one of the component behind it
     for index in [0, 1] {
         let alias = many(6, &[&[4, 2, 1, index]]);
-        let all = component(&[nested(b""), nested(&alias)].concat()[usize::from(1 - index) * 10..]);
-        let all = read(&all);
+        let all =
+            read(component(&[nested(b""), nested(&alias)].concat()[usize::from(1 - index) * 10..]));
         let alias = inner(all.component(), Space::Components, index.into());
         let alias = alias.get(Space::Components, 0).expect("an alias");
         is_cycle(alias, 21 + usize::from(index) * 10, Space::Components, index.into());
     }
     // an argument that is its own instance
     let instance = many(5, &[b"\0\0\x01\x01a\x05\0"]);
-    let all = component(&[nested(b""), instance].concat());
-    let all = read(&all);
+    let all = read(component(&[nested(b""), instance].concat()));
     let argument = inner(all.component(), Space::Instances, 0).export("a").expect("an argument");
     is_cycle(argument, 21, Space::Instances, 0);
 }
@@ -520,15 +502,14 @@ fn too_deep() {
 #[test]
 fn faults() {
     for (sections, fault, text) in cases() {
-        let all = component(&sections);
-        let all = read(&all);
+        let all = read(component(&sections));
         let last = all.component().definitions().last().expect("an item");
         assert_eq!((last.resolve(), last.target()), (Err(fault), Err(fault)), "{sections:x?}");
         assert!(text.contains(&format!(" at {:#x}", fault.place())), "{text}");
         assert_eq!(fault.to_string(), text);
         // so is what is the same as it
-        let again = component(&[&sections[..], &section(11, b"\x01\0\x01z\x03\0\0")].concat());
-        let again = read(&again);
+        let again =
+            read(component(&[&sections[..], &section(11, b"\x01\0\x01z\x03\0\0")].concat()));
         if all.component().count(Space::Types) == 1 {
             let last = again.component().definitions().last().expect("an item");
             assert_eq!(last.resolve(), Err(fault));
@@ -537,5 +518,5 @@ fn faults() {
     }
     let all = component(b"");
     let missing = ScopeFault::OutOfRange { place: 0, space: Space::Values, index: 0, count: 0 };
-    assert_eq!(read(&all).component().get(Space::Values, 0).err(), Some(missing));
+    assert_eq!(read(all).component().get(Space::Values, 0).err(), Some(missing));
 }
