@@ -33,3 +33,9 @@ pub mod spellings;
 pub mod table;
 #[path = "../common/visited.rs"]
 pub mod visited;
+
+/// Whether the call panics.
+pub fn panics<T>(call: impl FnOnce() -> T) -> bool {
+    use std::panic::{AssertUnwindSafe, catch_unwind};
+    catch_unwind(AssertUnwindSafe(|| drop(call()))).is_err()
+}

@@ -12,10 +12,4 @@ mod traits;
 mod turns;
 mod unsupported;
 
-use std::panic::{AssertUnwindSafe, catch_unwind};
-use wenc_calls::{corpus, hex, refuse, seen, spellings};
-
-/// Whether the call panics.
-fn panics<T>(call: impl FnOnce() -> T) -> bool {
-    catch_unwind(AssertUnwindSafe(|| drop(call()))).is_err()
-}
+use wenc_calls::{corpus, hex, panics, refuse, seen, spellings};

@@ -21,12 +21,8 @@ struct Sweep {
     text: &'static [u8],
     /// How it ends if none fails.
     whole: End,
-    /// How it ends if one fails, at least this often.
-    refused: End,
-    refusals: u8,
-    /// How else it may end then, at least this often.
-    other: End,
-    others: u8,
+    /// How it may end if one fails, each at least this often.
+    refused: &'static [(End, u8)],
 }
 
 const SWEEPS: &[Sweep] = &[
@@ -39,69 +35,50 @@ const SWEEPS: &[Sweep] = &[
             b"0\n0061736d0d0001000a2201001d616e2d696e746572666163652d776974682d612d6c6f6e672d6e616d650100\n",
             b"",
         ),
-        refused: FAULT,
-        refusals: 1,
-        other: (2, b"refused 1\n0061736d0d000100\n", b""),
-        others: 1,
+        refused: &[(FAULT, 1), ((2, b"refused 1\n0061736d0d000100\n", b""), 1)],
     },
     // The text that is read, and the text of the report.
     Sweep {
         args: &[],
         text: b"\n\nx",
         whole: (1, b"", b"line 3\n"),
-        refused: FAULT,
-        refusals: 2,
-        other: FAULT,
-        others: 0,
+        refused: &[(FAULT, 2)],
     },
     // The text, its bytes, the sections, and for each its items and a name; and what is printed.
     Sweep {
         args: &["list"],
         text: b"0061736d0d0001000a060100016601000b0701000167010000",
         whole: (0, b"10 1\n11 1\n0 0 0 0 0 0 0 0 2 0 0 0 0\n", b""),
-        refused: UNLISTED,
-        refusals: 8,
-        other: UNLISTED,
-        others: 0,
+        refused: &[(UNLISTED, 8)],
     },
     // The text, its bytes and the report.
     Sweep {
         args: &["list"],
         text: b"0061736d0d000100060501",
         whole: (3, b"", b"BadSection at 8\n"),
-        refused: UNLISTED,
-        refusals: 3,
-        other: UNLISTED,
-        others: 0,
+        refused: &[(UNLISTED, 3)],
     },
     // The text. The report of a bad one takes no memory.
     Sweep {
         args: &["list"],
         text: b"0",
         whole: (1, b"", b"line 1\n"),
-        refused: UNLISTED,
-        refusals: 1,
-        other: UNLISTED,
-        others: 0,
+        refused: &[(UNLISTED, 1)],
     },
 ];
 
 /// Each allocation fails in turn, until none is left.
 fn refuse_each(heap: Refusing, row: &Sweep) {
-    let (mut refused, mut other) = (0u8, 0u8);
+    let mut ends = std::vec![0; row.refused.len()];
     for n in 1..200 {
         heap.refuse_nth(n);
         let ran = run_program(Some(heap), row.args, row.text, usize::MAX, [0; 3]);
         if !heap.was_refused() {
-            assert!(ran.is(&row.whole) && refused >= row.refusals && other >= row.others);
+            assert!(ran.is(&row.whole) && row.refused.iter().zip(ends).all(|(of, n)| n >= of.1));
             return;
         }
-        if ran.is(&row.refused) {
-            refused += 1;
-        } else {
-            assert!(ran.is(&row.other));
-            other += 1;
-        }
+        let end = row.refused.iter().position(|(end, _)| ran.is(end));
+        ends[end.expect("one of these")] += 1;
     }
     panic!("each of 199 requests was refused")
 }
