@@ -30,41 +30,31 @@ const HAS_LINES: bool = cfg!(in_repository);
 
 /// The sources, each with what it was erased to: the crate, the path, the code and the Rust.
 fn sources() -> Vec<(String, PathBuf, String, String)> {
-    let erased = erased::folder();
-    let sources = Path::new(env!("CARGO_MANIFEST_DIR")).join("crates");
+    let (crates, erased) = (Path::new(env!("CARGO_MANIFEST_DIR")).join("crates"), erased::folder());
     let mut found = Vec::new();
-    for entry in fs::read_dir(erased).expect("the Rust is there") {
-        let rust = entry.expect("the folder can be read").path();
-        if rust.is_dir() {
-            let name = rust.file_name().expect("it has a name").to_string_lossy().into_owned();
-            let source = sources.join(&name).join("src");
-            gather(&name, &source, &rust, &mut found);
+    for entry in fs::read_dir(&erased).expect("the Rust is there") {
+        let entry = entry.expect("an entry");
+        if !entry.path().is_dir() {
+            continue;
+        }
+        let name = entry.file_name().into_string().expect("a name in UTF-8");
+        let (folder, mut sources, mut rust) =
+            (crates.join(&name), BTreeMap::new(), BTreeMap::new());
+        proof::gather(&folder, "src", &mut sources);
+        proof::gather(&erased, &name, &mut rust);
+        let stems = |files: &BTreeMap<String, Vec<u8>>| {
+            let paths = files.keys().filter_map(|path| path.split_once('/'));
+            paths.map(|(_, path)| Path::new(path).with_extension("")).collect::<Vec<_>>()
+        };
+        assert_eq!(stems(&sources), stems(&rust), "each file has its Rust, and no other is there");
+        for ((path, source), rust) in sources.into_iter().zip(rust.into_values()) {
+            let [source, rust] =
+                [source, rust].map(|text| String::from_utf8(text).expect("a text"));
+            let code = erase::without_ghosts(&source).expect("the source can be erased");
+            found.push((name.clone(), folder.join(path), code, rust));
         }
     }
     found
-}
-
-fn gather(name: &str, from: &Path, to: &Path, found: &mut Vec<(String, PathBuf, String, String)>) {
-    let names = |folder: &Path| {
-        let entries = fs::read_dir(folder).expect("the folder can be read");
-        let mut names: Vec<PathBuf> =
-            entries.map(|entry| entry.expect("an entry").path().with_extension("")).collect();
-        names.sort();
-        names.iter().map(|path| path.file_name().expect("a name").to_owned()).collect::<Vec<_>>()
-    };
-    assert_eq!(names(from), names(to), "each file has its Rust, and no other is there");
-    for entry in fs::read_dir(from).expect("the folder can be read") {
-        let path = entry.expect("an entry").path();
-        let rust = to.join(path.file_name().expect("a name"));
-        if path.is_dir() {
-            gather(name, &path, &rust, found);
-        } else {
-            let source = fs::read_to_string(&path).expect("the source");
-            let old = erase::without_ghosts(&source).expect("the source can be erased");
-            let new = fs::read_to_string(rust.with_extension("rs")).expect("the Rust");
-            found.push((name.to_owned(), path, old, new));
-        }
-    }
 }
 
 /// The module that a file has.

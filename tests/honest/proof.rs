@@ -17,8 +17,8 @@ fn told() -> BTreeMap<&'static str, &'static str> {
         .collect()
 }
 
-/// The files below a folder, by their paths from the crate's own.
-fn gather(crate_folder: &Path, at: &str, found: &mut BTreeMap<String, Vec<u8>>) {
+/// The files below a folder, by their paths from the one around it.
+pub fn gather(crate_folder: &Path, at: &str, found: &mut BTreeMap<String, Vec<u8>>) {
     for entry in fs::read_dir(crate_folder.join(at)).expect("the folder can be read") {
         let entry = entry.expect("an entry");
         let path = format!("{at}/{}", entry.file_name().to_str().expect("a name in UTF-8"));

@@ -1,10 +1,11 @@
 //! Recursion groups of core types: readers count each of their types, as the standard does. The
 //! counts of a listing are upstream's, for which a group is one type.
 
+use crate::out_of_range::expect;
 use crate::{component, nested, section};
 use wenc::scope::Definitions;
 use wenc::tree::{IndexCounts, Scope, Space};
-use wenc::{ListFault, Sections, list};
+use wenc::{Sections, list};
 
 /// A group of a function, a structure and an array, and a function with a parameter.
 const GROUP: &[u8] = b"\x4e\x03\x60\0\0\x5f\0\x5e\x7f\0";
@@ -69,22 +70,13 @@ fn an_empty_group() {
     assert_eq!((group.space(), group.index(), group.count()), (Some(TYPES), None, 0));
 }
 
-/// Which indices of core types are out of range, with their places, and how many there are.
-fn out_of_range(sections: &[u8]) -> Vec<(usize, Scope, u32, u64)> {
-    let bytes = component(sections);
-    let all = Sections::new(&bytes).expect("a component").out_of_range(100);
-    let all: Result<Vec<_>, ListFault> = all.collect();
-    let all = all.expect("it is read").into_iter();
-    all.filter(|of| of.space == TYPES).map(|of| (of.place, of.scope, of.index, of.count)).collect()
-}
-
 /// Threads are spawned by references to the functions of core types 3 and 4.
 const SPAWNED: &[u8] = b"\x08\x05\x02\x40\x03\x40\x04";
 
 #[test]
 fn indices_of_a_component() {
     let here = Scope::Component(0);
-    assert_eq!(out_of_range(&[&types(), SPAWNED].concat()), [(30, here, 4, 4)]);
+    expect(&[&types(), SPAWNED].concat(), &[(30, TYPES, here, 4, 4)]);
 }
 
 /// A nested component with such types, and aliases of core types 3 and 4 around it. Behind it, the
@@ -93,9 +85,9 @@ fn indices_of_a_component() {
 fn indices_of_nested_components() {
     let aliases = section(6, b"\x02\0\x10\x02\x01\x03\0\x10\x02\x01\x04");
     let inner = nested(&[&types(), SPAWNED, &aliases].concat());
-    let found = out_of_range(&[&types(), &inner[..], SPAWNED].concat());
     let [here, around] = [0, 1].map(Scope::Component);
-    assert_eq!(found, [(57, here, 4, 4), (67, around, 4, 4), (77, here, 4, 4)]);
+    let missing = [(57, TYPES, here, 4, 4), (67, TYPES, around, 4, 4), (77, TYPES, here, 4, 4)];
+    expect(&[&types(), &inner[..], SPAWNED].concat(), &missing);
 }
 
 /// The types of components, instances and modules have core types of their own.
@@ -106,9 +98,9 @@ fn indices_of_declared_types() {
         // aliases of core types 3, which is then the fifth, and 5 of the type itself
         let aliases = b"\x02\0\x10\x02\0\x03\x02\0\x10\x02\0\x05";
         let ty = [&[1, kind, 4, 0], GROUP, b"\0", FUNCTION, aliases].concat();
-        assert_eq!(out_of_range(&section(7, &ty)), [(11, own, 5, 5)], "{kind:#x}");
+        expect(&section(7, &ty), &[(11, TYPES, own, 5, 5)]);
     }
     let imports = b"\0\x01a\x01b\0\x03\0\x01a\x01b\0\x04";
     let ty = [b"\x01\x50\x04\x01", GROUP, b"\x01", FUNCTION, imports].concat();
-    assert_eq!(out_of_range(&section(3, &ty)), [(11, own, 4, 4)]);
+    expect(&section(3, &ty), &[(11, TYPES, own, 4, 4)]);
 }

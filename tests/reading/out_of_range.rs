@@ -9,7 +9,10 @@ fn found(component: &[u8]) -> Result<Vec<OutOfRange>, ListFault> {
     Sections::new(component)?.out_of_range(100).collect()
 }
 
-fn expect(sections: &[u8], wanted: &[(usize, Space, Scope, u32, u64)]) {
+/// Expects that these indices are out of range: each with the byte offset of its item, its space,
+/// its scope, and how many there are.
+#[track_caller]
+pub fn expect(sections: &[u8], wanted: &[(usize, Space, Scope, u32, u64)]) {
     let found = found(&component(sections)).expect("it is read");
     let found: Vec<_> =
         found.iter().map(|of| (of.place, of.space, of.scope, of.index, of.count)).collect();

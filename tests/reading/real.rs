@@ -1,7 +1,7 @@
 //! Real components, by all that reads them.
 
 use crate::corpus;
-use crate::seen::{is_name, is_same};
+use crate::seen::{are_items, is_name, is_same};
 use wenc::scope::{Definitions, Meaning};
 use wenc::tree::{ItemTree, Space};
 use wenc::*;
@@ -47,18 +47,6 @@ fn components() {
         tools: 179,
     };
     assert_eq!(all, wanted);
-}
-
-/// Owned items and borrowed ones are those of the listing. Returns how many there are.
-fn are_items(sections: Sections<'_>, listing: &Listing) -> usize {
-    let (views, trees) = (sections.items(), sections.trees());
-    let mut listed = listing.items();
-    for (view, tree) in views.zip(trees) {
-        let ((place, view), (range, tree)) = (view.expect("an item"), tree.expect("an item"));
-        assert!(place == range && is_same(view, &tree) && listed.next() == Some(&tree));
-    }
-    assert!(listed.next().is_none());
-    sections.items().count()
 }
 
 /// Imports, exports, names and counts are those of the listing.

@@ -12,7 +12,7 @@ mod values;
 use runs::hex;
 use wenc::tree::{Command, build};
 use wenc::*;
-use wenc_calls::seen::is_same;
+use wenc_calls::seen::are_items;
 
 /// What follows the header.
 #[track_caller]
@@ -25,12 +25,7 @@ fn is_behind(bytes: &[u8], wanted: &str) {
 #[track_caller]
 fn is_listed(bytes: &[u8]) {
     let listing = list(bytes).expect("it is listed");
-    let mut views = Sections::new(bytes).expect("a component").items();
-    for item in listing.items() {
-        let (_, view) = views.next().expect("an item").expect("it is read");
-        assert!(is_same(view, item), "{view:?} is not {item:?}");
-    }
-    assert!(views.next().is_none());
+    are_items(Sections::new(bytes).expect("a component"), &listing);
     let mut again = Component::new();
     listing.sections.iter().for_each(|section| _ = again.section(section));
     assert_eq!(again.as_slice(), bytes);
