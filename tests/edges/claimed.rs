@@ -1,12 +1,13 @@
 //! Iterators that report a wrong length: each value is encoded, and the encoded count is the number
 //! of values.
 
-use crate::unsupported::{field, sub};
+use crate::unsupported::field;
 use wenc::{
     CompositeInnerType, CoreTypeEncoder, CoreTypeSection, FuncType, HeapType, InstanceType,
     ModuleType, RefType, StorageType, ValType,
 };
 use wenc_calls::encoded::encoded;
+use wenc_calls::table::core_types::subtype;
 
 /// An iterator that reports this length until it ends.
 struct Claiming<I>(usize, I);
@@ -77,7 +78,8 @@ fn structs_and_groups() {
     }
     let write = |encoder: CoreTypeEncoder<'_>, claimed| {
         let types = [ValType::I32, ValType::I64, ValType::F32];
-        let types = types.map(|ty| sub(true, CompositeInnerType::Func(FuncType::new([ty], []))));
+        let types =
+            types.map(|ty| subtype(true, None, CompositeInnerType::Func(FuncType::new([ty], []))));
         encoder.rec(Claiming(claimed, types.into_iter()));
     };
     is_encoded(write, &[0x4e, 3, 0x60, 1, 0x7f, 0, 0x60, 1, 0x7e, 0, 0x60, 1, 0x7d, 0]);

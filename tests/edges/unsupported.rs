@@ -10,6 +10,7 @@ use wenc::{
     TableType, ValType,
 };
 use wenc_calls::encoded::encoded;
+use wenc_calls::table::core_types::subtype;
 
 const SHARED: HeapType = HeapType::Abstract { shared: true, ty: AbstractHeapType::Func };
 const EXACT: ValType = ValType::Ref(RefType { nullable: false, heap_type: HeapType::Exact(0) });
@@ -17,15 +18,6 @@ const FIELD: FieldType = field(StorageType::Val(ValType::CONTREF), false);
 
 pub const fn field(element_type: StorageType, mutable: bool) -> FieldType {
     FieldType { element_type, mutable }
-}
-
-fn composite(inner: CompositeInnerType) -> CompositeType {
-    CompositeType { inner, shared: false, descriptor: None, describes: None }
-}
-
-/// A type without a supertype.
-pub fn sub(is_final: bool, inner: CompositeInnerType) -> SubType {
-    SubType { is_final, supertype_idx: None, composite_type: composite(inner) }
 }
 
 fn function() -> CompositeInnerType {
@@ -66,7 +58,7 @@ fn values() {
         (&StructType { fields: [FIELD].into() }, Continuation),
         (&CompositeInnerType::Cont(ContType(0)), Continuation),
         (&structure(), Continuation),
-        (&sub(false, CompositeInnerType::Cont(ContType(0))), Continuation),
+        (&subtype(false, None, CompositeInnerType::Cont(ContType(0))), Continuation),
         (&[Some(&EXACT)].as_slice(), ExactReference),
     ];
     values.into_iter().for_each(|(value, part)| is_refused(value, part));
@@ -78,7 +70,7 @@ fn values() {
 
 /// The properties of a composite type besides its kind, one by one.
 fn extended() -> [(CompositeType, Unsupported); 3] {
-    let plain = composite(function());
+    let plain = subtype(true, None, function()).composite_type;
     [
         (CompositeType { shared: true, ..plain.clone() }, SharedType),
         (CompositeType { descriptor: Some(0), ..plain.clone() }, Descriptor),
@@ -171,11 +163,11 @@ fn encoders() {
     refuses(Continuation, |encoder| encoder.try_array(&FIELD.element_type, false));
     refuses(Continuation, |encoder| encoder.try_struct([field(StorageType::I8, false), FIELD]));
     refuses(Continuation, |encoder| encoder.try_cont(&ContType(0)));
-    refuses(Continuation, |encoder| encoder.try_subtype(&sub(false, structure())));
+    refuses(Continuation, |encoder| encoder.try_subtype(&subtype(false, None, structure())));
     refuses(SharedType, |encoder| {
         let [(composite_type, _), ..] = extended();
         let second = SubType { is_final: true, supertype_idx: None, composite_type };
-        encoder.try_rec([sub(true, function()), second])
+        encoder.try_rec([subtype(true, None, function()), second])
     });
 }
 

@@ -5,6 +5,7 @@ use crate::interfaces::*;
 use wenc::CanonicalOption::*;
 use wenc::ComponentExportKind as Kind;
 use wenc::*;
+use wenc_calls::table::core_types::subtype;
 
 type Builder = ComponentBuilder;
 
@@ -137,9 +138,7 @@ fn structure(
 ) -> SubType {
     let field = |&(element_type, mutable): &_| FieldType { element_type, mutable };
     let fields = fields.iter().map(field).collect();
-    let inner = CompositeInnerType::Struct(StructType { fields });
-    let composite_type = CompositeType { inner, shared: false, descriptor: None, describes: None };
-    SubType { is_final, supertype_idx, composite_type }
+    subtype(is_final, supertype_idx, CompositeInnerType::Struct(StructType { fields }))
 }
 
 /// Types of functions, arrays and structs.

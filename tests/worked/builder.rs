@@ -1,6 +1,6 @@
 //! Calls of a builder.
 
-use super::{is_behind, is_listed};
+use super::{NONE, STRING, is_behind, is_listed};
 use ComponentExportKind::{Func, Instance, Value};
 use Error::{TooMany, Unfinished};
 use std::mem::take;
@@ -10,8 +10,6 @@ use wenc::*;
 const BYTE: ComponentTypeRef =
     ComponentTypeRef::Value(ComponentValType::Primitive(PrimitiveValType::U8));
 
-const STRING: ComponentValType = ComponentValType::Primitive(PrimitiveValType::String);
-
 /// The function that the first instance exports.
 const FIRST: Alias<'static> = Alias::InstanceExport { instance: 0, kind: Func, name: "f" };
 
@@ -20,8 +18,6 @@ const SECOND: Alias<'static> =
     Alias::Outer { kind: ComponentOuterAliasKind::Type, count: 0, index: 1 };
 
 const FUNC: ComponentTypeRef = ComponentTypeRef::Func(0);
-
-const NONE: [(&str, ComponentValType); 0] = [];
 
 const OPTIONS: [CanonicalOption; 2] = [CanonicalOption::Memory(0), CanonicalOption::Async];
 

@@ -14,6 +14,10 @@ use wenc::tree::{Command, build};
 use wenc::*;
 use wenc_calls::seen::are_items;
 
+const STRING: ComponentValType = ComponentValType::Primitive(PrimitiveValType::String);
+
+const NONE: [(&str, ComponentValType); 0] = [];
+
 /// What follows the header.
 #[track_caller]
 fn is_behind(bytes: &[u8], wanted: &str) {

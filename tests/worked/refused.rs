@@ -1,10 +1,8 @@
 //! Calls while memory is refused.
 
-use super::is_behind;
+use super::{NONE, is_behind};
 use wenc::*;
 use wenc_calls::refuse::refusing;
-
-const NONE: [(&str, ComponentValType); 0] = [];
 
 /// The call succeeds without memory.
 #[track_caller]

@@ -1,12 +1,8 @@
 //! Sections, each alone in a component.
 
-use super::{is_behind, is_listed};
+use super::{NONE, STRING, is_behind, is_listed};
 use ComponentExportKind::{Func, Instance};
 use wenc::*;
-
-const STRING: ComponentValType = ComponentValType::Primitive(PrimitiveValType::String);
-
-const NONE: [(&str, ComponentValType); 0] = [];
 
 /// A module with a custom section that is empty.
 fn module() -> Module {

@@ -3,12 +3,7 @@
 use super::{is_behind, is_listed};
 use wenc::*;
 use wenc_calls::encoded::encoded;
-
-/// A type that is a supertype of others or not.
-fn subtype(is_final: bool, supertype_idx: Option<u32>, inner: CompositeInnerType) -> SubType {
-    let composite_type = CompositeType { inner, shared: false, descriptor: None, describes: None };
-    SubType { is_final, supertype_idx, composite_type }
-}
+use wenc_calls::table::core_types::subtype;
 
 /// A function type with these parameters.
 fn function<const N: usize>(params: [ValType; N]) -> CompositeInnerType {
@@ -29,7 +24,7 @@ const MEMORY: EntityType = EntityType::Memory(MemoryType {
 
 const TAG: EntityType = EntityType::Tag(TagType { kind: TagKind::Exception, func_type_idx: 0 });
 
-const TABLE: EntityType = EntityType::Table(TableType {
+pub const TABLE: EntityType = EntityType::Table(TableType {
     element_type: RefType::FUNCREF,
     table64: false,
     minimum: 0,
@@ -37,7 +32,7 @@ const TABLE: EntityType = EntityType::Table(TableType {
     shared: false,
 });
 
-const GLOBAL: EntityType =
+pub const GLOBAL: EntityType =
     EntityType::Global(GlobalType { val_type: ValType::I64, mutable: true, shared: false });
 
 const FIELDS: [FieldType; 2] = [

@@ -1,6 +1,7 @@
 //! Values that encode themselves.
 
 use super::runs::hex;
+use super::type_sections::{GLOBAL, TABLE};
 use wenc::*;
 use wenc_calls::encoded::encoded;
 
@@ -22,14 +23,6 @@ fn rows() {
     let reference = |nullable, heap_type| ValType::Ref(RefType { nullable, heap_type });
     let custom = CustomSection { name: "test".into(), data: [11, 22, 33, 44][..].into() };
     let outer = ComponentOuterAliasKind::CoreType;
-    let table = TableType {
-        element_type: RefType::FUNCREF,
-        table64: false,
-        minimum: 0,
-        maximum: None,
-        shared: false,
-    };
-    let global = GlobalType { val_type: ValType::I64, mutable: true, shared: false };
     let rows: [(&dyn Encode, &str); 17] = [
         (&name("a", [Some("i"), None, Some("")]), "02 01 61 02 00 01 69 02 00"),
         (&name("n", [None, Some("1"), Some("x")]), "02 01 6e 02 01 01 31 02 01 78"),
@@ -48,8 +41,8 @@ fn rows() {
         (&reference(false, HeapType::FUNC), "64 70"),
         (&reference(true, HeapType::ANY), "63 6e"),
         (&reference(true, HeapType::Concrete(64)), "63 c0 00"),
-        (&EntityType::Table(table), "01 70 00 00"),
-        (&EntityType::Global(global), "03 7e 01"),
+        (&TABLE, "01 70 00 00"),
+        (&GLOBAL, "03 7e 01"),
         (&names(), "02 05 01 61 01 01 62"),
     ];
     for (value, wanted) in rows {

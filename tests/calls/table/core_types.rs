@@ -51,7 +51,7 @@ fn field(a: &Size, at: usize) -> FieldType {
     FieldType { element_type, mutable: at % 2 == 0 }
 }
 
-fn subtype(is_final: bool, supertype_idx: Option<u32>, inner: CompositeInnerType) -> SubType {
+pub fn subtype(is_final: bool, supertype_idx: Option<u32>, inner: CompositeInnerType) -> SubType {
     let composite_type = CompositeType { inner, shared: false, descriptor: None, describes: None };
     SubType { is_final, supertype_idx, composite_type }
 }
