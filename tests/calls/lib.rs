@@ -6,6 +6,7 @@
 #![allow(missing_docs, reason = "it is for tests")]
 #![allow(clippy::type_complexity)]
 
+pub mod by_items;
 pub mod call;
 #[path = "../real/corpus.rs"]
 pub mod corpus;

@@ -176,10 +176,8 @@ fn components_and_modules_are_made_by_hand() {
 
 /// Each item of the component is added by a command, and finally the whole as a nested component.
 fn is_made_by_commands(bytes: &[u8]) {
-    let commands = || {
-        let sections = list(bytes).expect("it is a component").sections.into_iter();
-        sections.flat_map(|section| section.items).map(tree::Command::from).collect()
-    };
+    let commands =
+        || list(bytes).expect("it is a component").into_items().map(tree::Command::from).collect();
     let nested = tree::Command::Component { debug_name: None, commands: commands() };
     let commands: Vec<_> = commands().into_iter().chain([nested]).collect();
     let made = each_is_refused(30, |refusals| {

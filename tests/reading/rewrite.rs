@@ -4,41 +4,16 @@
 use crate::sections::EACH_KIND;
 use crate::spellings::ROWS;
 use crate::{bytes, component};
-use std::ops::Range;
 use wenc::tree::{
     self, AliasTree, ComponentDecl, CoreCompositeType, CoreTypeTree, DefinedTree, GroupTree,
     ItemTree, ModuleDecl, NameTree, TypeTree,
 };
-use wenc::view::ItemView;
 use wenc::*;
+use wenc_calls::by_items::{by_items, sections};
 
 /// The component with these sections, in hexadecimal.
 fn of_digits(sections: &str) -> Vec<u8> {
     component(&bytes(sections))
-}
-
-/// The sections of a component, each of which is read.
-fn sections(bytes: &[u8]) -> impl Iterator<Item = SectionReader<'_>> {
-    Sections::new(bytes).expect("a component").map(|section| section.expect("a section"))
-}
-
-/// The component that has, for each section of this one, that with each item added by this call: an
-/// item with its byte offsets, owned and borrowed.
-fn by_items(
-    bytes: &[u8],
-    add: impl Fn(&mut ItemSection, Range<usize>, ItemTree, ItemView<'_>) -> Result<(), Error>,
-) -> Vec<u8> {
-    let mut component = Component::new();
-    for section in sections(bytes) {
-        let mut made = ItemSection::new(section.id());
-        for (item, view) in section.trees().zip(section.items()) {
-            let ((place, item), (_, view)) = (item.expect("an item"), view.expect("an item"));
-            add(&mut made, place, item, view).expect("it is added");
-        }
-        assert_eq!((made.id(), made.len()), (section.id(), section.count()));
-        component.section(&made.clone());
-    }
-    component.finish()
 }
 
 #[test]
@@ -67,8 +42,12 @@ fn a_section_has_its_id_and_content() {
 fn items_are_written_anew() {
     for (wide, strict) in ROWS {
         let (bytes, wanted) = (of_digits(wide), of_digits(strict));
-        let owned = by_items(&bytes, |made, _, item, _| made.item(&item).map(|_| ()));
-        let borrowed = by_items(&bytes, |made, _, _, view| made.item(&view).map(|_| ()));
+        let owned = by_items(&bytes, |made, _, item| made.item(&item).map(|_| ()));
+        let borrowed = by_items(&bytes, |made, place, _| {
+            let mut items = Items::at(&bytes, made.id(), place, 1).expect("it is within");
+            let (_, view) = items.next().expect("an item").expect("it is read");
+            made.item(&view).map(|_| ())
+        });
         let mut anew = Component::new();
         for section in &list(&bytes).expect("it is listed").sections {
             anew.section(section);
@@ -89,7 +68,7 @@ fn items_keep_their_spelling() {
         let in_front = PADDED_IN_FRONT.iter().find(|(padded, _)| padded == wide);
         changed += in_front.iter().count();
         let wanted = of_digits(in_front.map_or(wide, |(_, anew)| anew));
-        let kept = by_items(&bytes, |made, place, _, _| made.raw(&bytes[place]).map(|_| ()));
+        let kept = by_items(&bytes, |made, place, _| made.raw(&bytes[place]).map(|_| ()));
         assert_eq!(kept, wanted, "{wide}");
     }
     assert_eq!(changed, PADDED_IN_FRONT.len());
@@ -99,7 +78,7 @@ fn items_keep_their_spelling() {
 fn a_changed_item_has_neighbours_as_they_stand() {
     // Aliases of what an instance exports, and of two types further out, whose numbers are padded.
     let bytes = of_digits("0615030100000166030281800087808080000302018000");
-    let changed = by_items(&bytes, |made, place, item, _| {
+    let changed = by_items(&bytes, |made, place, item| {
         match item {
             ItemTree::Alias(AliasTree::InstanceExport { instance, kind, .. }) => {
                 let name = String::from("renamed");

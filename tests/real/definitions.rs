@@ -8,7 +8,8 @@ use std::collections::BTreeSet;
 use wenc::scope::{Definition, Definitions, Meaning, Scope as Around, ScopeFault};
 use wenc::tree::{AliasTree, IndexCounts, ItemTree, Scope, Space, UsedIndex};
 use wenc::view::ItemView;
-use wenc::{Alias, Component, ComponentSectionId, ItemSection, Sections};
+use wenc::{Alias, ComponentSectionId, Sections};
+use wenc_calls::by_items::by_items;
 
 /// An index without a definition, and the number of those that its space has.
 type Missing = (Space, u32, u64);
@@ -198,23 +199,17 @@ fn no_index_has_a_definition() {
 
 /// Returns the component with another name in the alias with this number, if there is one.
 fn with_name(bytes: &[u8], number: usize) -> Option<Vec<u8>> {
-    let (mut component, mut next) = (Component::new(), 0);
-    for section in Sections::new(bytes).expect("it is a component") {
-        let section = section.expect("it is read");
-        let mut items = ItemSection::new(section.id());
-        for item in section.trees() {
-            let (_, mut item) = item.expect("it is read");
-            if let ItemTree::Alias(AliasTree::InstanceExport { name, .. }) = &mut item {
-                if next == number {
-                    name.push_str("-no");
-                }
-                next += 1;
+    let mut next = 0;
+    let changed = by_items(bytes, |items, _, mut item| {
+        if let ItemTree::Alias(AliasTree::InstanceExport { name, .. }) = &mut item {
+            if next == number {
+                name.push_str("-no");
             }
-            items.item(&item).expect("it is written");
+            next += 1;
         }
-        component.section(&items);
-    }
-    (next > number).then(|| component.finish())
+        items.item(&item).map(drop)
+    });
+    (next > number).then_some(changed)
 }
 
 /// An alias of an export that the instance doesn't have, which the validator refuses, too.

@@ -16,11 +16,12 @@ mod strip;
 #[path = "../../examples/world.rs"]
 mod world;
 
+use crate::corpus;
 use crate::toolchain::linker;
-use crate::{corpus, rebuilt};
 use componentize::{Signature, componentize};
 use wenc::tree::{ItemTree, NameTree};
-use wenc::{ComponentTypeRef, Listing, Sections, list};
+use wenc::{ComponentTypeRef, Listing, list};
+use wenc_calls::by_items::sections;
 
 fn componentized(module: &[u8], signatures: &[&str]) -> Vec<u8> {
     let signatures = signatures.iter().map(|text| Signature::parse(text));
@@ -29,7 +30,7 @@ fn componentized(module: &[u8], signatures: &[&str]) -> Vec<u8> {
 
 /// The items of a component but for custom sections.
 fn items(component: &[u8]) -> Vec<ItemTree> {
-    let items = rebuilt::items(list(component).expect("it is listed"));
+    let items = list(component).expect("it is listed").into_items();
     items.filter(|item| !matches!(item, ItemTree::Custom { .. })).collect()
 }
 
@@ -202,10 +203,8 @@ fn names(item: &ItemTree) -> Option<(String, String)> {
 
 /// How many sections differ.
 fn differing(one: &[u8], other: &[u8]) -> usize {
-    let [one, other] = [one, other].map(|bytes| {
-        let sections = Sections::new(bytes).expect("a component");
-        sections.map(|section| section.expect("a section").bytes()).collect::<Vec<_>>()
-    });
+    let [one, other] =
+        [one, other].map(|bytes| sections(bytes).map(|of| of.bytes().to_vec()).collect::<Vec<_>>());
     assert_eq!(one.len(), other.len());
     one.iter().zip(other).filter(|(one, other)| **one != *other).count()
 }
@@ -218,8 +217,7 @@ fn components_with_a_renamed_import_have_all_else() {
     let mut renamed = 0;
     for (name, bytes) in corpus::components() {
         let Ok(listing) = list(&bytes) else { continue };
-        let Some((old, new)) = rebuilt::items(listing).filter_map(|item| names(&item)).last()
-        else {
+        let Some((old, new)) = listing.into_items().filter_map(|item| names(&item)).last() else {
             continue;
         };
         let other = rename::rename(&bytes, &old, &new).expect("it is renamed");

@@ -5,15 +5,16 @@
 
 use crate::corpus;
 use crate::definitions::is_missing;
-use crate::rebuilt::{built, items};
+use crate::rebuilt::built;
 use crate::side_by_side::side_by_side;
 use crate::toolchain::{Linker, linker};
 use wenc::tree::{Command, IndexUse, ItemTree, Scope, Space, UsedIndex};
 use wenc::{
-    Component, ComponentBuilder, ComponentExportKind as Kind, ComponentSectionId, ComponentTypeRef,
-    ComponentValType, ExportKind, ItemSection, ListFault, Listing, Module, ModuleArg, ModuleType,
-    OutOfRange, PrimitiveValType, RawSection, Sections, list,
+    ComponentBuilder, ComponentExportKind as Kind, ComponentTypeRef, ComponentValType, ExportKind,
+    ListFault, Listing, Module, ModuleArg, ModuleType, OutOfRange, PrimitiveValType, RawSection,
+    Sections, list,
 };
+use wenc_calls::by_items::by_items;
 
 /// How deep components may nest.
 const LIMIT: usize = 100;
@@ -30,30 +31,19 @@ pub type To<'a> = dyn Fn(usize) -> Option<u32> + 'a;
 
 /// Returns the component with these values for its indices, of which the first has this number.
 pub fn with_indices(bytes: &[u8], next: &mut usize, to: &To<'_>) -> Vec<u8> {
-    let mut component = Component::new();
-    for section in Sections::new(bytes).expect("it is a component") {
-        let section = section.expect("it is read");
-        if section.id() == u8::from(ComponentSectionId::Component) {
-            let nested = with_indices(section.raw().data, next, to);
-            component.section(&RawSection { id: section.id(), data: &nested });
-            continue;
+    by_items(bytes, |items, place, mut item| {
+        if let ItemTree::Component(nested) = item {
+            return items.raw(&with_indices(&nested, next, to)).map(drop);
         }
-        let mut items = ItemSection::new(section.id());
-        for item in section.trees() {
-            let (place, mut item) = item.expect("it is read");
-            let mut is_changed = false;
-            item.indices_mut(|used| {
-                if let Some(index) = to(*next) {
-                    (*used.index, is_changed) = (index, true);
-                }
-                *next += 1;
-            });
-            let added = if is_changed { items.item(&item) } else { items.raw(&bytes[place]) };
-            added.expect("it is written");
-        }
-        component.section(&items);
-    }
-    component.finish()
+        let mut is_changed = false;
+        item.indices_mut(|used| {
+            if let Some(index) = to(*next) {
+                (*used.index, is_changed) = (index, true);
+            }
+            *next += 1;
+        });
+        if is_changed { items.item(&item) } else { items.raw(&bytes[place]) }.map(drop)
+    })
 }
 
 fn with_index(component: &[u8], number: usize, value: u32) -> Vec<u8> {
@@ -201,7 +191,7 @@ fn is_moved(name: &str, bytes: &[u8], front: &Listing, linker: Option<&Linker>) 
     let encoded =
         |items: &[ItemTree]| built(&items.iter().cloned().map(Command::from).collect::<Vec<_>>());
     let by = front.counts.map(|count| u32::try_from(count).expect("they are few"));
-    let mut all: Vec<ItemTree> = items(list(bytes).expect(name)).collect();
+    let mut all: Vec<ItemTree> = list(bytes).expect(name).into_items().collect();
     let mut indices = 0;
     all.iter_mut().for_each(|item| item.indices_mut(|_| indices += 1));
     renumber(&mut all, |space, index| index + by[space.number()]);

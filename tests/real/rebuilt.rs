@@ -2,14 +2,8 @@
 
 use crate::{corpus, features, random};
 use wenc::tree::{Command, ItemTree, build};
-use wenc::{
-    Component, ComponentBuilder, Encode, ItemSection, ListFault, Listing, SectionReader, Sections,
-    list,
-};
-
-pub fn items(listing: Listing) -> impl Iterator<Item = ItemTree> {
-    listing.sections.into_iter().flat_map(|section| section.items)
-}
+use wenc::{Component, ComponentBuilder, Encode, ListFault, Listing, list};
+use wenc_calls::by_items::{by_items, sections};
 
 /// The bytes of a component that these commands make, all of which are accepted.
 pub fn built(commands: &[Command]) -> Vec<u8> {
@@ -29,7 +23,7 @@ fn with_nested(mut all: Vec<(String, Vec<u8>)>) -> Vec<(String, Vec<u8>)> {
     while let Some((name, bytes)) = all.get(at) {
         let name = name.clone();
         if let Ok(listing) = list(bytes) {
-            let nested = items(listing).filter_map(|item| match item {
+            let nested = listing.into_items().filter_map(|item| match item {
                 ItemTree::Component(bytes) => Some((format!("{name}, nested"), bytes)),
                 _ => None,
             });
@@ -38,11 +32,6 @@ fn with_nested(mut all: Vec<(String, Vec<u8>)>) -> Vec<(String, Vec<u8>)> {
         at += 1;
     }
     all
-}
-
-/// The sections of a component, all of which are framed.
-fn sections(bytes: &[u8]) -> impl Iterator<Item = SectionReader<'_>> {
-    Sections::new(bytes).expect("a component").map(|section| section.expect("a section"))
 }
 
 /// The component that has these sections as they stand.
@@ -56,19 +45,11 @@ fn kept(bytes: &[u8]) -> Vec<u8> {
 
 /// The component section by section, item by item: of two items in turn one is written anew, and
 /// the other kept.
-fn by_items(bytes: &[u8], anew: usize) -> Vec<u8> {
-    let mut component = Component::new();
-    for section in sections(bytes) {
-        let mut made = ItemSection::new(section.id());
-        for (number, item) in section.trees().enumerate() {
-            let (place, item) = item.expect("an item");
-            let is_anew = number % 2 == anew;
-            let added = if is_anew { made.item(&item) } else { made.raw(&bytes[place]) };
-            added.expect("it is added");
-        }
-        component.section(&made);
-    }
-    component.finish()
+fn in_turn(bytes: &[u8], anew: u32) -> Vec<u8> {
+    by_items(bytes, |made, place, item| {
+        let is_anew = made.len() % 2 == anew;
+        if is_anew { made.item(&item) } else { made.raw(&bytes[place]) }.map(drop)
+    })
 }
 
 /// The component by the trees of its sections.
@@ -93,13 +74,13 @@ fn by_builder(commands: &[Command]) -> Vec<u8> {
 fn is_made_again(name: &str, text: &[u8], bytes: &[u8]) -> usize {
     let listing = list(text).expect(name);
     let trees = by_trees(&listing);
-    let commands: Vec<Command> = items(listing).map(Command::from).collect();
+    let commands: Vec<Command> = listing.into_items().map(Command::from).collect();
     let ways = [
         ("trees", trees),
         ("commands", built(&commands)),
         ("a builder", by_builder(&commands)),
-        ("items in even places", by_items(text, 0)),
-        ("items in odd places", by_items(text, 1)),
+        ("items in even places", in_turn(text, 0)),
+        ("items in odd places", in_turn(text, 1)),
     ];
     for (way, again) in ways {
         let differs = again.iter().zip(bytes).position(|(one, other)| one != other);

@@ -9,6 +9,7 @@ use wenc::{
     Cause, DebugNames, Items, ListFault, NamesFault, NamesReader, ProducersFault, ProducersReader,
     Sections, Unread, list,
 };
+use wenc_calls::by_items::sections;
 use wenc_calls::corpus;
 use wenc_calls::random::Random;
 use wenc_capi::Status;
@@ -210,8 +211,7 @@ fn causes_are_those_of_rust() {
     for bytes in &components {
         // what is in a core module or a nested component isn't read
         let mut places: Vec<usize> = (0..8).collect();
-        for section in Sections::new(bytes).expect("a component") {
-            let section = section.expect("it is read");
+        for section in sections(bytes) {
             let len = if matches!(section.id(), 1 | 4) { 10 } else { usize::MAX };
             places.extend(section.range().take(len));
         }
@@ -306,8 +306,7 @@ fn fault_of_item(section: u32, bytes: &[u8]) -> Option<(&'static str, String)> {
 fn causes_of_items_are_those_of_rust() {
     let (mut random, mut counts) = (Random(2), BTreeMap::new());
     for bytes in components() {
-        for section in Sections::new(&bytes).expect("a component") {
-            let section = section.expect("it is read");
+        for section in sections(&bytes) {
             // what is in a core module or a nested component isn't read
             let (id, len) = match section.id() {
                 id @ (1 | 4) => (id.into(), 0),

@@ -425,8 +425,7 @@ fn copied(bytes: &[u8], rows: &[ItemRow]) -> Vec<u8> {
 /// The component as Rust reads and writes it again.
 fn relisted(bytes: &[u8]) -> Vec<u8> {
     let listing = wenc::list(bytes).expect("a component");
-    let items = listing.sections.into_iter().flat_map(|section| section.items);
-    let commands: Vec<wenc::tree::Command> = items.map(Into::into).collect();
+    let commands: Vec<wenc::tree::Command> = listing.into_items().map(Into::into).collect();
     wenc::tree::build(&commands).expect("there is memory").bytes
 }
 
