@@ -7,6 +7,7 @@ mod reading;
 mod views;
 
 use crate::refuse::{GRANTED, SINCE, calmly, refusing};
+use reading::refused;
 use wenc::*;
 
 /// How many calls were refused.
@@ -100,11 +101,7 @@ fn a_component_is_built() {
 
 fn is_listed(bytes: &[u8]) {
     let listing = each_is_refused(30, |refusals| {
-        let no_memory = |fault| {
-            assert_eq!(fault, ListFault::NoMemory);
-            Error::NoMemory
-        };
-        refusals.call(|| list(bytes).map_err(no_memory))
+        refusals.call(|| list(bytes).map_err(refused(ListFault::NoMemory)))
     });
     let commands: Vec<_> = listing.into_items().map(tree::Command::from).collect();
     assert!(tree::build(&commands).expect("there is memory").bytes == bytes);
@@ -134,22 +131,29 @@ fn has_sections_of_items(bytes: &[u8]) {
     });
 }
 
-/// Each item of the component is added as it was read.
-fn is_made_of_items(bytes: &[u8]) {
-    let items = || Sections::new(bytes).expect("it is a component").items();
-    let made = each_is_refused(30, |refusals| {
+/// What these calls of a builder make one after the other, none of which leaves a type unfinished.
+fn built<T>(
+    values: &[T],
+    call: impl Fn(&mut ComponentBuilder, &T) -> Result<Option<u32>, Error>,
+) -> Vec<u8> {
+    each_is_refused(30, |refusals| {
         let mut builder = refusals.call(ComponentBuilder::try_new);
-        for item in items() {
-            let (_, item) = item.expect("it is read");
+        for value in values {
             refusals.call(|| {
-                let result = builder.try_item(Some(NAME), &item);
+                let result = call(&mut builder, value);
                 assert!(builder.is_finished());
                 result
             });
         }
         builder.try_finish().expect("it takes no memory")
-    });
-    assert!(made == bytes);
+    })
+}
+
+/// Each item of the component is added as it was read.
+fn is_made_of_items(bytes: &[u8]) {
+    let items = Sections::new(bytes).expect("it is a component").items();
+    let items: Vec<_> = items.map(|item| item.expect("it is read").1).collect();
+    assert!(built(&items, |builder, item| builder.try_item(Some(NAME), item)) == bytes);
 }
 
 /// Appends a section, with the allocation number `n` failing. Returns whether there was such an
@@ -180,17 +184,7 @@ fn is_made_by_commands(bytes: &[u8]) {
         || list(bytes).expect("it is a component").into_items().map(tree::Command::from).collect();
     let nested = tree::Command::Component { debug_name: None, commands: commands() };
     let commands: Vec<_> = commands().into_iter().chain([nested]).collect();
-    let made = each_is_refused(30, |refusals| {
-        let mut builder = refusals.call(ComponentBuilder::try_new);
-        for command in &commands {
-            refusals.call(|| {
-                let result = builder.command(command);
-                assert!(builder.is_finished());
-                result
-            });
-        }
-        builder.try_finish().expect("it takes no memory")
-    });
+    let made = built(&commands, |builder, command| builder.command(command));
     let nested = NestedComponentBytes(bytes);
     let mut expected = bytes.to_vec();
     nested.append_to_component(&mut expected);

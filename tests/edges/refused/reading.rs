@@ -6,11 +6,18 @@ use wenc::tree::{ItemTree, OuterFault, Space};
 use wenc::*;
 
 /// An error that says that memory was refused.
-fn refused<E: PartialEq + Debug>(no_memory: E) -> impl Fn(E) -> Error {
+pub fn refused<E: PartialEq + Debug>(no_memory: E) -> impl Fn(E) -> Error {
     move |error| {
         assert_eq!(error, no_memory);
         Error::NoMemory
     }
+}
+
+/// The values up to the first error, in memory that isn't refused.
+fn kept<T>(mut values: impl Iterator<Item = Result<T, Error>>) -> Result<Vec<T>, Error> {
+    let mut kept = calmly(|| Vec::with_capacity(100));
+    values.try_for_each(|value| value.map(|value| kept.push(value)))?;
+    Ok(kept)
 }
 
 /// Names of functions, in a custom section.
@@ -81,12 +88,10 @@ fn nested_sections_are_found() {
     let sections = Sections::new(&component).expect("it is a component");
     let found = each_is_refused(0, |refusals| {
         refusals.call(|| {
-            let mut found = calmly(|| Vec::with_capacity(100));
-            for section in sections.nested(2) {
+            kept(sections.nested(2).map(|section| {
                 let (depth, section) = section.map_err(refused(ListFault::NoMemory))?;
-                found.push((depth, section.id()));
-            }
-            Ok(found)
+                Ok((depth, section.id()))
+            }))
         })
     });
     let ids =
@@ -101,26 +106,16 @@ fn items_are_found() {
     let nested = || sections.nested(2).map(|section| section.expect("it is read").1);
     let read: Vec<SectionReader<'_>> = nested().collect();
     let items = each_is_refused(10, |refusals| {
-        refusals.call(|| {
-            let mut items = calmly(|| Vec::with_capacity(100));
-            for item in read.iter().flat_map(SectionReader::trees) {
-                items.push(item.map_err(refused(ListFault::NoMemory))?.1);
-            }
-            Ok(items)
-        })
+        let items = || read.iter().flat_map(SectionReader::trees);
+        refusals
+            .call(|| kept(items().map(|item| Ok(item.map_err(refused(ListFault::NoMemory))?.1))))
     });
     assert_eq!(items.len(), read.len());
 
     let views = read.iter().flat_map(SectionReader::items);
     let views: Vec<_> = views.map(|item| item.expect("it is read").1).collect();
     let copies = each_is_refused(10, |refusals| {
-        refusals.call(|| {
-            let mut copies = calmly(|| Vec::with_capacity(100));
-            for view in &views {
-                copies.push(view.try_to_tree()?);
-            }
-            Ok(copies)
-        })
+        refusals.call(|| kept(views.iter().map(|view| view.try_to_tree())))
     });
     assert_eq!(copies, items);
 }
