@@ -108,7 +108,13 @@ pub fn compare(
     let mut old = old.to_vec();
     allocators::leave_out(&mut old, &names, counts);
     let has_conditions = has_conditions(crate_name, module);
-    let mut source = Source::new(crate_name, &old, &names, has_conditions);
+    let mut source = Source {
+        crate_name,
+        tokens: &old,
+        allocators: &names,
+        has_conditions,
+        ..Source::default()
+    };
     let mut rest = new;
     if !rest.is_empty() {
         // It stands in the line of what documents the first item.
@@ -166,6 +172,7 @@ fn take(way: &str, line: Option<usize>, wanted: &str, rest: &mut &[Token]) -> Re
 }
 
 /// A source that is being read.
+#[derive(Default)]
 struct Source<'a> {
     crate_name: &'a str,
     tokens: &'a [Token],
@@ -183,16 +190,6 @@ struct Source<'a> {
 }
 
 impl<'a> Source<'a> {
-    fn new(
-        crate_name: &'a str,
-        tokens: &'a [Token],
-        allocators: &'a [String],
-        has_conditions: bool,
-    ) -> Self {
-        let (at, error, parted, owned) = (0, None, 0, 0);
-        Source { crate_name, tokens, allocators, at, error, parted, owned, has_conditions }
-    }
-
     /// The token so many after this.
     fn text(&self, ahead: usize) -> &'a str {
         self.tokens.get(self.at + ahead).map_or("", |token| &token.text)
@@ -309,7 +306,9 @@ impl<'a> Source<'a> {
 
     /// A token of a path, with the root that it has in Rust.
     fn renamed(&self, ahead: usize) -> String {
-        let is_root = self.text(ahead + 1) == "::" && self.text(ahead - 1) != "::";
+        let at = self.at + ahead;
+        let is_inner = at.checked_sub(1).is_some_and(|before| self.tokens[before].text == "::");
+        let is_root = self.text(ahead + 1) == "::" && !is_inner;
         match self.text(ahead) {
             "crate" if is_root => format!("crate::proved::{}", self.crate_name),
             "std" if is_root => "crate::shim".into(),
@@ -465,8 +464,7 @@ impl<'a> Source<'a> {
     fn name(&self) -> Option<Step> {
         let (word, next) = (self.text(0), self.text(1));
         match word {
-            "+" if next == "Drop" => Some(step("bound Drop left out", 2, "")),
-            ":" if self.stands(": Drop >") || self.stands(": Drop ,") => {
+            "+" | ":" if next == "Drop" && (word == "+" || [">", ","].contains(&self.text(2))) => {
                 Some(step("bound Drop left out", 2, ""))
             }
             "use" if self.stands("use thiserror :: Error ;") => {
@@ -475,10 +473,10 @@ impl<'a> Source<'a> {
             "(" if self.stands("( crate )") => {
                 Some(step("pub(crate)", 3, format!("(in crate::proved::{})", self.crate_name)))
             }
-            "pub" if NARROWED.contains(&(self.owner("impl"), self.text(2))) => {
-                Some(step("member that stays in this crate", 1, "pub(crate)"))
-            }
-            "pub" if NARROWED.contains(&(self.owner("struct"), next)) => {
+            "pub"
+                if NARROWED.contains(&(self.owner("impl"), self.text(2)))
+                    || NARROWED.contains(&(self.owner("struct"), next)) =>
+            {
                 Some(step("member that stays in this crate", 1, "pub(crate)"))
             }
             "fn" if next == "main" => Some(step("main is pub", 2, "pub fn main")),
@@ -533,19 +531,12 @@ impl<'a> Source<'a> {
 
     /// The root of a path.
     fn root(&self) -> Option<Step> {
-        if self.text(1) != "::" || self.before(1) == "::" {
-            return None;
-        }
-        match self.text(0) {
-            "crate" => {
-                let root = format!("crate::proved::{}", self.crate_name);
-                Some(step("root of the crate", 1, root))
-            }
-            "std" => Some(step("root of std", 1, "crate::shim")),
-            word => {
-                let root = || step("root of another crate", 1, format!("crate::proved::{word}"));
-                is_crate(word).then(root)
-            }
-        }
+        let (word, root) = (self.text(0), self.renamed(0));
+        let way = match word {
+            "crate" => "root of the crate",
+            "std" => "root of std",
+            _ => "root of another crate",
+        };
+        (root != word).then(|| step(way, 1, root))
     }
 }
