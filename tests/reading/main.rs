@@ -22,22 +22,10 @@ mod views;
 
 use indices::expect;
 use wenc::tree::NameTree;
-use wenc::*;
 use wenc_calls::call::{Seen, here};
+use wenc_calls::format::{component, section};
 use wenc_calls::hex::bytes;
 use wenc_calls::{corpus, sections, seen, spellings};
-
-/// A component with these sections.
-fn component(sections: &[u8]) -> Vec<u8> {
-    [&Component::HEADER[..], sections].concat()
-}
-
-/// A section with this content, whose size is one byte.
-fn section(id: u8, content: &[u8]) -> Vec<u8> {
-    let size = u8::try_from(content.len()).expect("it is short");
-    assert!(size < 0x80, "its size is one byte");
-    [&[id, size], content].concat()
-}
 
 /// A component section with a component with these sections.
 fn nested(sections: &[u8]) -> Vec<u8> {

@@ -9,6 +9,7 @@ use crate::toolchain::linker;
 use std::fs::read_to_string;
 use std::path::{Path, PathBuf};
 use wenc::Component;
+use wenc_calls::format::{self, section};
 
 fn path(of: &str) -> PathBuf {
     Path::new(env!("CARGO_MANIFEST_DIR")).join("../..").join(of)
@@ -40,19 +41,6 @@ fn rows(source: &str) -> Vec<(&str, Vec<u8>)> {
         (call.split('(').next().unwrap_or(call), literal(code))
     })
     .collect()
-}
-
-/// A component of one section with this id, and bytes after that.
-fn behind(id: u8, bytes: &[u8]) -> Vec<u8> {
-    [&Component::HEADER[..], &[id], bytes].concat()
-}
-
-/// A component of one section with this id and this content, which is short.
-fn section(id: u8, content: &[&[u8]]) -> Vec<u8> {
-    let content = content.concat();
-    let size = u8::try_from(content.len()).expect("it is short");
-    assert!(size < 0x80, "its size is one byte");
-    behind(id, &[&[size], &content[..]].concat())
 }
 
 /// Sections of types without their ids.
@@ -90,17 +78,17 @@ const PARTS: &[&str] = &[
 fn component(name: &str, bytes: &[u8]) -> Option<Vec<u8>> {
     let among = |table: &[(&str, u8)]| table.iter().find(|row| row.0 == name).map(|row| row.1);
     if let Some(id) = among(SECTIONS) {
-        return Some(behind(id, bytes));
+        return Some(format::component(&[&[id], bytes].concat()));
     }
     if let Some(id) = among(TYPES) {
-        return Some(section(id, &[&[1], bytes]));
+        return Some(format::component(&section(id, &[&[1], bytes].concat())));
     }
     if PARTS.contains(&name) {
         return None;
     }
     match bytes {
         [0, b'a', b's', b'm', 0x0d, ..] => Some(bytes.to_vec()),
-        [0, b'a', b's', b'm', 0x01, ..] => Some(section(1, &[bytes])),
+        [0, b'a', b's', b'm', 0x01, ..] => Some(format::component(&section(1, bytes))),
         _ => {
             let printed = hexadecimal(std::str::from_utf8(bytes).expect("it is text"));
             Some(printed.first().unwrap_or_else(|| panic!("{name} is no component")).clone())
