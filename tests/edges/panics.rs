@@ -63,9 +63,12 @@ const FIELDS: [(&str, Given); 2] = [("a", Given::Fine), ("b", Given::Panics)];
 const ITEMS: [(Given, ComponentExportKind, u32); 2] =
     [(Given::Fine, FUNC, 0), (Given::Panics, FUNC, 1)];
 
-/// A builder with an open section.
+/// A builder with an open section. A type was given up before its first one.
 fn builder() -> ComponentBuilder {
     let mut b = ComponentBuilder::default();
+    drop(b.type_defined(Some("t")));
+    assert!(b.discard_unfinished());
+    b.alias_export(0, "t", ComponentExportKind::Type);
     b.import(NAME, OF_FUNC);
     b.task_cancel();
     b
@@ -76,7 +79,7 @@ fn goes_on(mut b: ComponentBuilder) {
     let mut wanted = builder();
     for b in [&mut b, &mut wanted] {
         assert!(b.is_finished() && !b.discard_unfinished());
-        assert_eq!(b.task_cancel(), 1);
+        assert_eq!((b.task_cancel(), b.type_count()), (1, 1));
         b.append_names();
     }
     assert_eq!(b.finish(), wanted.finish());
