@@ -52,14 +52,12 @@ impl CoreTypeBy<'_> {
     #[cold]
     #[inline(never)]
     fn function(self, params: &mut Values, results: &mut Values) -> Result<(), Error> {
-        let params = params.converted()?.as_slice().iter().copied();
-        let results = results.converted()?.as_slice().iter().copied();
-        Ok(on!(self, CoreTypeBy + Module, encoder => encoder.function(params, results))?)
+        let (params, results) = (params.converted()?.as_slice(), results.converted()?.as_slice());
+        Ok(on!(self, CoreTypeBy + Module, encoder => encoder.slice_function(params, results))?)
     }
 
     fn struct_(self, fields: &[proved::FieldType]) -> Result<(), Error> {
-        let fields = fields.iter().copied();
-        Ok(on!(self, CoreTypeBy + Module, encoder => encoder.struct_(fields))?)
+        Ok(on!(self, CoreTypeBy + Module, encoder => encoder.slice_struct(fields))?)
     }
 }
 

@@ -82,6 +82,14 @@ impl<'a, L: Parent> CoreTypeEncoder<'a, L> {
         self.parent.end_with(&Tagged(0x60, &lists))
     }
 
+    /// Writes a final function type with these parameters and results.
+    pub fn slice_function(self, params: &[ValType], results: &[ValType]) -> Result<(), Fault>
+        ensures { Ends L.appended L.ended L.refuses self.entry.parent.now self.exit.0.now result
+            (composite_type (Func params.now results.now)) }
+    {
+        self.parent.end_with(&Tagged(0x60, &(params, results)))
+    }
+
     /// Writes this function type, as a final one.
     pub fn func_type<A: Allocator>(self, ty: &FuncType<A>) -> Result<(), Fault>
         ensures { Ends L.appended L.ended L.refuses self.entry.parent.now self.exit.0.now result
@@ -111,6 +119,14 @@ impl<'a, L: Parent> CoreTypeEncoder<'a, L> {
             (λ fs. composite_type (Struct fs)) }
     {
         self.parent.end_with_list(&[0x5f], fields)
+    }
+
+    /// Writes a final structure type with these fields.
+    pub fn slice_struct(self, fields: &[FieldType]) -> Result<(), Fault>
+        ensures { Ends L.appended L.ended L.refuses self.entry.parent.now self.exit.0.now result
+            (composite_type (Struct fields.now)) }
+    {
+        self.parent.end_with(&Tagged(0x5f, &fields))
     }
 
     /// Writes this type.
