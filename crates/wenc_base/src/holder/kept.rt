@@ -165,5 +165,6 @@ fn move_up(bytes: &mut [u8], start: usize, end: usize, head: &[u8])
     // 32 bits: an offset in the slice.
     let to = start + head.len();
     bytes[start..to].copy_from_slice(head);
-    bytes.copy_within(end.., to);
+    let len = bytes.len();
+    bytes.copy_within(end..len, to);
 }
