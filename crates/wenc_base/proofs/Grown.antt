@@ -11,6 +11,14 @@ pub on_err : {A B : Type 0} (outcome : Result (Unit {0}) Fault) → (A → B) �
 on_err (Ok u) f h = tt
 on_err (Err fault) f h = f h
 
+pub on_ok : {A B : Type 0} (outcome : Result (Unit {0}) Fault) → (A → B) → OnOk outcome A → OnOk outcome B
+on_ok (Ok u) f h = f h
+on_ok (Err fault) f h = tt
+
+pub in_both : {A : Type 0} (outcome : Result (Unit {0}) Fault) → OnOk outcome A → OnErr outcome A → A
+in_both (Ok u) ok err = ok
+in_both (Err fault) ok err = err
+
 -- ---- in several calls
 
 module _ {T : Type 0} (written : T → List ℕ → T) (ended : T → T) (refuses : T → List ℕ → Fault → Type 0) where
@@ -81,3 +89,13 @@ module _ {S B : Type 0} (steps : S → Option B → S → Type 0) (s : S) (piece
     err = tt;
     warranted = tt;
   }
+
+  -- what was written is kept or cut off, or it was refused for a cause of its own and is cut off
+  pub kept_written : (new : HolderState) (body : List ℕ) (written outcome : Result (Unit {0}) Fault) → OnOk written (Came body)
+      → IfErr written (λ fault. SomeRun steps s (λ p. IsWarranted (piece p.items).Cause fault)) → IfErr written (λ fault. outcome ≡ Err fault)
+      → OnOk outcome (new ≡ record { kept = old.kept; count = old.count; body = body; opening = old.opening })
+      → OnOk outcome (content_size old.count (length body) < 2 ^ 32) → OnErr outcome (new ≡ old)
+      → OnOk written (IfErr outcome (λ fault. (fault ≡ TooLarge) × (2 ^ 32 ≤ content_size old.count (length body)))) → Grows new outcome
+  kept_written new body (Err fault) outcome came own handed e fits same large =
+      rw handed (refused_own new (Err fault) fault refl (rw handed at same) own)
+  kept_written new body (Ok u) outcome came own handed e fits same large = kept_or_cut new body outcome came e fits same large

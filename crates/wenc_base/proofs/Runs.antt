@@ -104,6 +104,10 @@ module _ {S A : Type 0} (steps : S → Option A → S → Type 0) (lead : Piece)
     pub tail_refused : (fault : Fault) → Came → IsWarranted tail.Cause fault → Refused fault
     tail_refused fault came h = (came.0, came.1, still_warranted tail.Cause (listed lead form tail came.0.items).Cause (λ f g. inr (inr g)) fault h)
 
+    pub tail_warranted : (outcome : Result (Unit {0}) Fault) → Came → IfErr outcome (IsWarranted tail.Cause) → IfErr outcome Refused
+    tail_warranted (Ok u) came h = tt
+    tail_warranted (Err fault) came h = tail_refused fault came h
+
     -- all was written
     pub all_listed : (start new : List ℕ) → Appended start lead old → Came → Appended now tail new
         → WholeRun steps s (λ p. Appended start (listed lead form tail p.items) new)
@@ -121,3 +125,11 @@ module _ {S A : Type 0} (steps : S → Option A → S → Type 0) (lead : Piece)
       where
         texts : List ℕ
         texts = (list form came.0.items).text
+
+    -- all was written, if the last piece was
+    pub tail_written : (start new : List ℕ) (outcome : Result (Unit {0}) Fault) → Appended start lead old → Came
+        → OnOk outcome (new ≡ now ++ tail.text) → OnOk outcome tail.Fits → ((fault : Fault) → tail.Cause fault → OnOk outcome ⊥)
+        → OnOk outcome (WholeRun steps s (λ p. Appended start (listed lead form tail p.items) new))
+    tail_written start new (Ok u) begins came items fits free =
+        all_listed start new begins came (record { items = items; fits = fits; no_cause = free })
+    tail_written start new (Err fault) begins came items fits free = tt

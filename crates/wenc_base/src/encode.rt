@@ -1,6 +1,6 @@
 //! The trait `Encode`, which appends numbers and other values to a vector of bytes.
 ghost use Rattle.std.specs.Prelude.{◌≡◌, ◌+◌, ◌<◌, ◌≤◌, ◌^◌, ◌++◌, ◌∷◌, [], length, vec_len};
-ghost use Rattle.std.specs.Prelude.{vec_capacity, take, drop, OnOk, OnErr, IfErr, true};
+ghost use Rattle.std.specs.Prelude.{vec_capacity, take, drop, OnOk, OnErr, IfErr, true, false, Err};
 ghost use Rattle.wenc_base.specs.Prelude.{Appends, size_cause, AreBytes, number_size};
 ghost use Rattle.wenc_base.specs.Prelude.{unsigned_text, signed_text, Piece, ◌▸◌, nothing, flag};
 ghost use Rattle.wenc_base.specs.Prelude.{u64 as long_number, count, i64 as signed_number, name};
@@ -423,23 +423,59 @@ impl<'a, T: Encode> Encode for Tagged<'a, T> {
     #[inline(always)]
     fn encode<A: Allocator>(&self, sink: &mut Vec<u8, A>) -> Result<(), Fault> {
         let start = sink.len();
-        let is_first = has_room(sink, 1);
-        if is_first {
-            push_in_room(sink, self.0);
+        if push_if_room(sink, self.0) {
+            return match self.1.encode(sink) {
+                Ok(()) => Ok(()),
+                Err(fault) => cut(sink, start, fault),
+            };
         }
         match self.1.encode(sink) {
-            Ok(()) => {
-                if !is_first {
-                    return insert_before(self.0, start, sink);
-                }
-                Ok(())
-            }
-            Err(fault) => {
-                sink.truncate(start);
-                Err(fault)
-            }
+            Ok(()) => insert_before(self.0, start, sink),
+            Err(fault) => Err(fault),
         }
     }
+}
+
+/// Appends a byte if there is spare capacity for it, and returns whether there was.
+#[inline]
+fn push_if_room<A: Allocator>(sink: &mut Vec<u8, A>, byte: u8) -> bool
+    ensures pushed { result ≡ true → sink.new.items ≡ sink.old.items ++ byte ∷ [] }
+    ensures same { result ≡ false → sink.new.items ≡ sink.old.items }
+{
+    if !has_room(sink, 1) {
+        return false;
+    }
+    push_in_room(sink, byte);
+    true
+}
+
+/// Removes the bytes from `start` on, and fails.
+#[cold]
+#[inline]
+pub(crate) fn cut<A: Allocator>(
+    sink: &mut Vec<u8, A>,
+    start: usize,
+    fault: Fault,
+) -> Result<(), Fault>
+    ensures items { sink.new.items ≡ take start sink.old.items }
+    ensures failed { result ≡ Err fault }
+{
+    sink.truncate(start);
+    Err(fault)
+}
+
+/// Does what `cut` does, out of line: calls whose lists succeed then take fewer instructions.
+#[cold]
+#[inline(never)]
+pub(crate) fn cut_apart<A: Allocator>(
+    sink: &mut Vec<u8, A>,
+    start: usize,
+    fault: Fault,
+) -> Result<(), Fault>
+    ensures items { sink.new.items ≡ take start sink.old.items }
+    ensures failed { result ≡ Err fault }
+{
+    cut(sink, start, fault)
 }
 
 /// Inserts a byte before the bytes from `start` on. If it fails, these are removed.
@@ -467,6 +503,7 @@ impl<T: Encode> Encode for Option<T> {
 
     ghost unfinished = { λ o. (x : T) × (o ≡ Some x) × T.unfinished x };
 
+    #[inline(always)]
     fn encode<A: Allocator>(&self, sink: &mut Vec<u8, A>) -> Result<(), Fault> {
         match self {
             None => encode_byte(0x00, sink),
@@ -484,13 +521,12 @@ impl<T: Encode, U: Encode> Encode for (T, U) {
     #[inline(always)]
     fn encode<A: Allocator>(&self, sink: &mut Vec<u8, A>) -> Result<(), Fault> {
         let start = sink.len();
-        self.0.encode(sink)?;
+        if let Err(fault) = self.0.encode(sink) {
+            return Err(fault);
+        }
         match self.1.encode(sink) {
             Ok(()) => Ok(()),
-            Err(fault) => {
-                sink.truncate(start);
-                Err(fault)
-            }
+            Err(fault) => cut(sink, start, fault),
         }
     }
 }
@@ -501,8 +537,19 @@ impl<T: Encode, U: Encode, V: Encode> Encode for (T, U, V) {
 
     ghost unfinished = { λ t. T.unfinished t.0 };
 
+    #[inline(always)]
     fn encode<A: Allocator>(&self, sink: &mut Vec<u8, A>) -> Result<(), Fault> {
-        (ByRef(&self.0), (ByRef(&self.1), ByRef(&self.2))).encode(sink)
+        let start = sink.len();
+        if let Err(fault) = self.0.encode(sink) {
+            return Err(fault);
+        }
+        if let Err(fault) = self.1.encode(sink) {
+            return cut(sink, start, fault);
+        }
+        match self.2.encode(sink) {
+            Ok(()) => Ok(()),
+            Err(fault) => cut(sink, start, fault),
+        }
     }
 }
 
@@ -515,6 +562,7 @@ impl<'a, T: Encode> Encode for ByRef<'a, T> {
 
     ghost unfinished = { λ l. T.unfinished l.0.now };
 
+    #[inline(always)]
     fn encode<A: Allocator>(&self, sink: &mut Vec<u8, A>) -> Result<(), Fault> {
         self.0.encode(sink)
     }

@@ -1,7 +1,7 @@
 //! `Holder`, the storage of counted sections and types: the number of their members, and the
 //! members' encodings.
-ghost use Rattle.std.specs.Prelude.{◌≡◌, ◌+◌, ◌-◌, ◌<◌, ◌≤◌, ◌^◌, ◌⊎◌, length, OnOk, OnErr, IfOk};
-ghost use Rattle.std.specs.Prelude.{IfErr, true, false, take, drop};
+ghost use Rattle.std.specs.Prelude.{◌≡◌, ◌+◌, ◌-◌, ◌<◌, ◌≤◌, ◌^◌, ◌⊎◌, ◌++◌, length, OnOk, OnErr};
+ghost use Rattle.std.specs.Prelude.{IfOk, IfErr, true, false, take, drop, List, ℕ, Err};
 ghost use Rattle.std.specs.Iterator.{IsFinite};
 ghost use Rattle.std.specs.Iterator.Runs.{SomeRun, WholeRun};
 ghost use Rattle.wenc_base.specs.Prelude.{Appends, Appended, IsWarranted, IsMemory, no_members};
@@ -15,7 +15,7 @@ ghost use Rattle.wenc_base.specs.declared.fault.Fault.TheVariants.{TooLarge, Unf
 mod kept;
 mod openings;
 
-use crate::encode::{Encode, Verbatim, encode_list, extend_in_room};
+use crate::encode::{Encode, Verbatim, cut, cut_apart, encode_list, extend_in_room};
 use crate::fault::Fault;
 use crate::number::encoding_size;
 use crate::short::Short;
@@ -201,9 +201,10 @@ impl<A: Allocator> Holder<A> {
             return Err(Fault::Unfinished);
         }
         let start = self.bytes.len();
-        value.encode(&mut self.bytes)?;
-        self.count = end_member(&mut self.bytes, self.kept, start, self.count)?;
-        Ok(())
+        match value.encode(&mut self.bytes) {
+            Ok(()) => end_member(&mut self.bytes, self.kept, start, &mut self.count),
+            Err(fault) => Err(fault),
+        }
     }
 
     /// Adds a member: the encoding of `lead`, the values as a list, the encoding of `tail`.
@@ -264,8 +265,8 @@ impl<A: Allocator> Holder<A> {
         ensures unfinished_lead { E.unfinished lead.now → result ≡ Err Unfinished }
     {
         let start = self.bytes.len();
-        encode_listed(lead, values, tail, &mut self.bytes)?;
-        keep_in_room(&mut self.bytes, self.kept, start, self.count)
+        let written = encode_listed(lead, values, tail, &mut self.bytes);
+        keep_written(written, &mut self.bytes, self.kept, start, self.count)
     }
 
     /// Returns the error for a member that can't be opened: that of encoding its lead, if there is
@@ -345,7 +346,8 @@ impl<A: Allocator> Encode for Holder<A> {
     }
 }
 
-/// Appends the encodings of a value, a list of values, and another value.
+/// Appends the encodings of a value, a list of values, and another value, and stops at the first
+/// error.
 fn encode_listed<
     E: Encode,
     T: Encode + Drop,
@@ -358,23 +360,41 @@ fn encode_listed<
     ensures ok { OnOk result (WholeRun I.next_gives values (λ run.
         Appended sink.old.items (listed (E.piece lead.now) T.piece (F.piece tail.now) run.items)
         sink.new.items)) }
-    ensures err { OnErr result (sink.new.items ≡ sink.old.items) }
+    ensures err { OnErr result ((more : List ℕ) × (sink.new.items ≡ sink.old.items ++ more)) }
     ensures warranted { IfErr result (λ fault. SomeRun I.next_gives values (λ run. IsWarranted
         (listed (E.piece lead.now) T.piece (F.piece tail.now) run.items).Cause fault)) }
     ensures unfinished_first { E.unfinished lead.now → result ≡ Err Unfinished }
 {
-    let start = sink.len();
-    lead.encode(sink)?;
-    if let Err(fault) = encode_list(values, sink) {
-        sink.truncate(start);
+    if let Err(fault) = lead.encode(sink) {
         return Err(fault);
     }
-    match tail.encode(sink) {
-        Ok(()) => Ok(()),
-        Err(fault) => {
-            sink.truncate(start);
-            Err(fault)
-        }
+    match encode_list(values, sink) {
+        Ok(()) => tail.encode(sink),
+        Err(fault) => Err(fault),
+    }
+}
+
+/// Keeps what was written from `start` on, or removes it and fails, if that failed or if there is
+/// no room for it.
+#[inline]
+fn keep_written<A: Allocator>(
+    written: Result<(), Fault>,
+    bytes: &mut Vec<u8, A>,
+    kept: usize,
+    start: usize,
+    count: u32,
+) -> Result<(), Fault>
+    requires { (kept ≤ start) × (start ≤ length bytes.old.items) }
+    ensures failed { IfErr written (λ fault. result ≡ Err fault) }
+    ensures fits { OnOk result (content_size count (length (drop kept bytes.old.items)) < 2 ^ 32) }
+    ensures same { OnOk result (bytes.new.items ≡ bytes.old.items) }
+    ensures err { OnErr result (bytes.new.items ≡ take start bytes.old.items) }
+    ensures warranted { OnOk written (IfErr result (λ fault. (fault ≡ TooLarge)
+        × (2 ^ 32 ≤ content_size count (length (drop kept bytes.old.items))))) }
+{
+    match written {
+        Ok(()) => keep_in_room(bytes, kept, start, count),
+        Err(fault) => cut_apart(bytes, start, fault),
     }
 }
 
@@ -384,23 +404,25 @@ fn end_member<A: Allocator>(
     bytes: &mut Vec<u8, A>,
     kept: usize,
     start: usize,
-    count: u32,
-) -> Result<u32, Fault>
+    count: &mut u32,
+) -> Result<(), Fault>
     requires { (kept ≤ start) × (start ≤ length bytes.old.items) }
-    ensures ok { IfOk result (λ next. (next ≡ count + 1)
-        × (content_size next (length (drop kept bytes.old.items)) < 2 ^ 32)) }
+    ensures counted { OnOk result (count.new ≡ count.old + 1) }
+    ensures fits { OnOk result
+        (content_size count.new (length (drop kept bytes.old.items)) < 2 ^ 32) }
     ensures same { OnOk result (bytes.new.items ≡ bytes.old.items) }
     ensures err { OnErr result (bytes.new.items ≡ take start bytes.old.items) }
+    ensures uncounted { OnErr result (count.new ≡ count.old) }
     ensures free { (fault : FaultSpec)
-        → OneMoreCause count (length (drop kept bytes.old.items)) fault → OnOk result ⊥ }
-    ensures warranted { IfErr result (OneMoreCause count (length (drop kept bytes.old.items))) }
+        → OneMoreCause count.old (length (drop kept bytes.old.items)) fault → OnOk result ⊥ }
+    ensures warranted { IfErr result (OneMoreCause count.old (length (drop kept bytes.old.items))) }
 {
-    match next_count(count, bytes.len() - kept) {
-        Ok(next) => Ok(next),
-        Err(fault) => {
-            bytes.truncate(start);
-            Err(fault)
+    match next_count(*count, bytes.len() - kept) {
+        Ok(next) => {
+            *count = next;
+            Ok(())
         }
+        Err(fault) => cut(bytes, start, fault),
     }
 }
 

@@ -83,9 +83,13 @@ pub trait Parent {
             (E.piece value.now) }
         ensures unfinished_value { E.unfinished value.now → result ≡ Err Unfinished }
     {
-        self.append_value(value)?;
-        self.end_member();
-        Ok(())
+        match self.append_value(value) {
+            Ok(()) => {
+                self.end_member();
+                Ok(())
+            }
+            Err(fault) => Err(fault),
+        }
     }
 
     /// Appends these bytes to the open member, then the values as a list, which completes it, and
@@ -103,9 +107,13 @@ pub trait Parent {
         ensures { EndsListed appended Self.ended refuses I.next_gives values self.old self.new
             result (λ vs. behind_bytes lead.now (list T.piece vs)) }
     {
-        self.append_list(lead, values)?;
-        self.end_member();
-        Ok(())
+        match self.append_list(lead, values) {
+            Ok(()) => {
+                self.end_member();
+                Ok(())
+            }
+            Err(fault) => Err(fault),
+        }
     }
 }
 

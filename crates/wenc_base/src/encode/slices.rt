@@ -6,7 +6,7 @@ ghost use Rattle.wenc_base.specs.Prelude.{Appended, list_in_order, drawn_in_orde
 ghost use Rattle.wenc_base.specs.Prelude.{IsWarranted, member_cause};
 
 use super::front::put_number_over;
-use crate::encode::Encode;
+use crate::encode::{Encode, cut, cut_apart, encode_byte};
 use crate::fault::Fault;
 use std::alloc::Allocator;
 
@@ -19,10 +19,7 @@ impl<T: Encode> Encode for &[T] {
         self.len().encode(sink)?;
         match encode_each(self, sink) {
             Ok(()) => Ok(()),
-            Err(fault) => {
-                sink.truncate(start);
-                Err(fault)
-            }
+            Err(fault) => cut(sink, start, fault),
         }
     }
 }
@@ -60,13 +57,12 @@ pub fn encode_list<T: Encode + Drop, I: Iterator<Item = T> + Drop, A: Allocator>
         IsWarranted (drawn_in_order T.piece run.items).Cause fault)) }
 {
     let start = sink.len();
-    sink.push(0)?;
+    if let Err(fault) = encode_byte(0, sink) {
+        return Err(fault);
+    }
     match encode_all(values, sink) {
         Ok(count) => put_number_over(count, start, sink),
-        Err(fault) => {
-            sink.truncate(start);
-            Err(fault)
-        }
+        Err(fault) => cut_apart(sink, start, fault),
     }
 }
 
@@ -87,7 +83,9 @@ fn encode_all<T: Encode + Drop, I: Iterator<Item = T> + Drop, A: Allocator>(
 {
     let mut count: u32 = 0;
     for value in values {
-        value.encode(sink)?;
+        if let Err(fault) = value.encode(sink) {
+            return Err(fault);
+        }
         if count == u32::MAX {
             return Err(Fault::TooMany);
         }

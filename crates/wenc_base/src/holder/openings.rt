@@ -89,8 +89,10 @@ impl<A: Allocator> Holder<A> {
         ensures unfinished_value { E.unfinished value.now → result ≡ Err Unfinished }
     {
         let start = self.bytes.len();
-        value.encode(&mut self.bytes)?;
-        keep_in_room(&mut self.bytes, self.kept, start, self.count)
+        match value.encode(&mut self.bytes) {
+            Ok(()) => keep_in_room(&mut self.bytes, self.kept, start, self.count),
+            Err(fault) => Err(fault),
+        }
     }
 
     /// Appends these bytes to the open member, then the values as a list. There has to be an open

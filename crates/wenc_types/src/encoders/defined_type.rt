@@ -92,7 +92,7 @@ impl<'a, L: Parent> ComponentDefinedTypeEncoder<'a, L> {
             (λ cs. def_val_type (Variant (map borrowed_case cs))) }
     {
         self.parent
-            .end_with_list(&[0x71], cases.map(|(name, ty)| Case { name, ty }))
+            .end_with_list(&[0x71], cases.map(case_of))
     }
 
     /// Defines a list of any length.
@@ -207,6 +207,15 @@ impl<'a, L: Parent> ComponentDefinedTypeEncoder<'a, L> {
     }
 }
 
+/// Returns the case with this name and type.
+#[inline]
+fn case_of<'a>(named: (&'a str, Option<ComponentValType>)) -> Case<'a>
+    ensures { result ≡ record { name = named.entry.0; ty = named.entry.1 } }
+{
+    let (name, ty) = named;
+    Case { name, ty }
+}
+
 /// A case of a variant.
 #[derive(Clone, Copy)]
 struct Case<'a> {
@@ -218,7 +227,8 @@ impl<'a> Encode for Case<'a> {
     ghost piece = { λ c. case (record { name = c.name.now; ty = c.ty }) };
 
     /// The last byte says that the case refines no other.
+    #[inline(always)]
     fn encode<A: Allocator>(&self, sink: &mut Vec<u8, A>) -> Result<(), Fault> {
-        (self.name, self.ty, Tagged(0x00, &())).encode(sink)
+        (self.name, (self.ty, Tagged(0x00, &()))).encode(sink)
     }
 }

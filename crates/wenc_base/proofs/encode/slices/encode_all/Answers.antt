@@ -1,9 +1,7 @@
 use Rattle.std.proofs.Common.{rules, arith, [], ◌∷◌, length-append, refl, ◌∙◌}
 use Rattle.std.proofs.iter.SoFar.{turn_by, exit_by}
-use Rattle.std.specs.Iterator.Runs.{SomeRun}
-use Rattle.wenc_base.specs.Fault.{IsWarranted, drawn_cause}
 use Rattle.wenc_base.proofs.Members.{written_next}
-use Rattle.wenc_base.proofs.Runs.{too_many_run, refused_run, handed_on}
+use Rattle.wenc_base.proofs.Runs.{too_many_run, refused_run}
 use Rattle.wenc_base.proofs.encode.slices.encode_all.Goals as goal
 
 pub returns-then-count-clause-warranted : goal.returns-then-count-clause-warranted
@@ -11,16 +9,13 @@ returns-then-count-clause-warranted g c =
     let turn = turn_by g.I.Iterator.next_gives (c.loop-value.yielded, c.loop-value.yielded_by) _ c.next.new.self c.in-Some.ensures.steps refl in
     too_many_run g.I.Iterator.next_gives g.T.Encode.piece c.args.values turn.0 c.loop-value.yielded c.in-Some.value c.loop-value.count
     (turn.1 ∙ c.into_iter-value-iterator.ensures.into_iter_gives) turn.2.0 c.loop-value.invariant.counted c.if-count.true
-    c.loop-value.invariant.written.no_cause (λ fault h. c.in_ok-encode.ensures.appended.encodable fault h)
+    c.loop-value.invariant.written.no_cause (λ fault h. c.in_default.ensures.appended.encodable fault h)
 
-pub returns-in_err-encode-clause-warranted : goal.returns-in_err-encode-clause-warranted
-returns-in_err-encode-clause-warranted g c =
+pub returns-in-Err-clause-warranted : goal.returns-in-Err-clause-warranted
+returns-in-Err-clause-warranted g c =
     let turn = turn_by g.I.Iterator.next_gives (c.loop-value.yielded, c.loop-value.yielded_by) _ c.next.new.self c.in-Some.ensures.steps refl in
-    let refused = refused_run g.I.Iterator.next_gives g.T.Encode.piece c.args.values turn.0 c.loop-value.yielded c.in-Some.value c.in_err-encode.field-0.0
-    (turn.1 ∙ c.into_iter-value-iterator.ensures.into_iter_gives) turn.2.0 c.loop-value.invariant.written.no_cause c.in_err-encode.ensures.appended.warranted in
-    handed_on (λ fault. SomeRun g.I.Iterator.next_gives c.args.values
-    (λ run. IsWarranted (drawn_cause (λ v. (g.T.Encode.piece v).Cause) run.items) fault)) c.from_residual.result c.in_err-encode.field-0.0
-    c.from_residual.ensures.1 refused
+    refused_run g.I.Iterator.next_gives g.T.Encode.piece c.args.values turn.0 c.loop-value.yielded c.in-Some.value c.in-Err.fault
+    (turn.1 ∙ c.into_iter-value-iterator.ensures.into_iter_gives) turn.2.0 c.loop-value.invariant.written.no_cause c.in-Err.ensures.appended.warranted
 
 pub loop-value-preserved : goal.loop-value-preserved
 loop-value-preserved g c =
@@ -29,7 +24,7 @@ loop-value-preserved g c =
       callable = goes.0;
       finite = goes.1;
       written = written_next g.T.Encode.piece _ _ c.in-Some.value _ _ c.loop-value.invariant.written
-          (search rules) c.in_ok-encode.ensures.fits (λ fault h. c.in_ok-encode.ensures.appended.encodable fault h);
+          (search rules) c.in_default.ensures.fits (λ fault h. c.in_default.ensures.appended.encodable fault h);
       counted = omega (arith, length-append c.loop-value.yielded (c.in-Some.value ∷ []), c.loop-value.invariant.counted);
     }
 
