@@ -79,15 +79,15 @@ macro_rules! with_list {
             builder: &mut $crate::ComponentBuilder,
             $($arg: $ty,)*
             list: $crate::adapters::List<'_, $item>,
-        ) -> Result<u32, $crate::Error> {
-            builder.0.$name($($arg,)* list).map_err(From::from)
+        ) -> Result<u32, $crate::proved::wenc_base::Fault> {
+            builder.0.$name($($arg,)* list)
         }
 
         let mut list = $list;
         if const { $crate::adapters::is_array::<$array>() } {
             return Ok($self.0.$name($($arg,)* list)?);
         }
-        listed($self, $($arg,)* $crate::adapters::List(&mut list))
+        Ok(listed($self, $($arg,)* $crate::adapters::List(&mut list))?)
     }};
 }
 

@@ -55,6 +55,7 @@ macro_rules! parents {
 
             /// Discards the unfinished type, which restores the state before it, and returns
             /// whether there was one. Doesn't allocate.
+            #[inline]
             pub fn discard_unfinished(&mut self) -> bool {
                 self.0.discard_unfinished()
             }
@@ -74,6 +75,7 @@ pub(crate) trait AddsWhole {
 macro_rules! adding_whole {
     ($($name:ident)*) => {
         $(impl $crate::collections::AddsWhole for $name {
+            #[inline]
             fn discard_unfinished(&mut self) {
                 let mut items = core::mem::take(self).0.into_holder();
                 items.discard_unfinished();

@@ -106,11 +106,13 @@ macro_rules! built {
             /// # Panics
             ///
             /// Panics if [`try_new`](Self::try_new) fails.
+            #[inline]
             pub fn new() -> Self {
                 $crate::error::or_panic(Self::try_new())
             }
 
             $(#[$doc])*
+            #[inline]
             pub fn try_new() -> Result<Self, $crate::Error> {
                 Ok(Self { bytes: $crate::encode::copied(Self::HEADER)? })
             }
@@ -136,6 +138,7 @@ macro_rules! built {
         }
 
         impl Default for $name {
+            #[inline]
             fn default() -> Self {
                 Self::new()
             }

@@ -138,6 +138,7 @@ macro_rules! section_ids {
         impl TryFrom<u8> for $name {
             type Error = $crate::UnknownSectionId;
 
+            #[inline]
             fn try_from(id: u8) -> Result<Self, $crate::UnknownSectionId> {
                 let known = Self::ALL.iter().find(|known| u8::from(**known) == id);
                 known.copied().ok_or($crate::UnknownSectionId(id))

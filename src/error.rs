@@ -33,7 +33,10 @@ pub enum Error {
 impl fmt::Display for Error {
     fn fmt(&self, f: &mut fmt::Formatter<'_>) -> fmt::Result {
         f.write_str(match self {
-            Self::Unsupported(part) => return write!(f, "not supported: {part}"),
+            Self::Unsupported(part) => {
+                f.write_str("not supported: ")?;
+                return part.fmt(f);
+            }
             Self::NoMemory => "no memory",
             Self::TooMany => "too many",
             Self::TooLarge => "too large",

@@ -35,6 +35,7 @@ impl PartialEq for CowStr<'_> {
 impl Eq for CowStr<'_> {}
 
 impl TryClone for CowStr<'_> {
+    #[inline]
     fn try_clone(&self) -> Result<Self, AllocError> {
         match self {
             CowStr::Borrowed(text) => Ok(CowStr::Borrowed(text)),

@@ -76,6 +76,10 @@ impl StringUsing for String {
             fn write_str(&mut self, text: &str) -> fmt::Result {
                 self.0.push_str_using(text).map_err(|_| fmt::Error)
             }
+
+            fn write_fmt(&mut self, arguments: fmt::Arguments<'_>) -> fmt::Result {
+                fmt::write(self, arguments)
+            }
         }
 
         fmt::write(&mut Writer(self), arguments).map_err(|_| AllocError)
@@ -83,6 +87,7 @@ impl StringUsing for String {
 }
 
 impl TryClone for String {
+    #[inline]
     fn try_clone(&self) -> Result<Self, AllocError> {
         String::from_str(Global, self)
     }

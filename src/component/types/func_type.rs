@@ -6,9 +6,6 @@ use crate::proved::wasm_encoder::FuncStage;
 use crate::twins::twins;
 use crate::{ComponentValType, Error};
 
-/// The stages at which parameters are due.
-const BEFORE_PARAMS: [FuncStage; 2] = [FuncStage::Start, FuncStage::Tagged];
-
 encoders! {
     /// Encodes a function type: whether it is async, then its parameters, then its result, which
     /// ends the type ([component model, binary format, "Type Definitions"][types]).
@@ -36,17 +33,17 @@ encoders! {
 }
 
 impl ComponentFuncTypeEncoder<'_> {
-    /// Fails unless the current stage is one of these. After an iterator of parameters panicked,
+    /// Fails unless this or the other is the current stage. After an iterator of parameters panicked,
     /// it is [`FuncStage::Done`], since it is unspecified which were written.
     #[inline]
-    fn at(&self, stages: &[FuncStage]) -> Result<(), Error> {
+    fn at(&self, this: FuncStage, other: FuncStage) -> Result<(), Error> {
         let stage = on!(&self.by, FuncBy, encoder => encoder.stage());
-        if stages.contains(&stage) { Ok(()) } else { Err(Error::OutOfTurn) }
+        if stage == this || stage == other { Ok(()) } else { Err(Error::OutOfTurn) }
     }
 
     /// Encodes the parameters, compiled once rather than for each iterator.
     fn listed(&mut self, params: List<'_, (&str, ComponentValType)>) -> Result<&mut Self, Error> {
-        self.at(&BEFORE_PARAMS)?;
+        self.at(FuncStage::Start, FuncStage::Tagged)?;
         on!(&mut self.by, FuncBy, encoder => encoder.params(params))?;
         Ok(self)
     }
@@ -57,7 +54,7 @@ impl ComponentFuncTypeEncoder<'_> {
         /// Fails with [`OutOfTurn`](Error::OutOfTurn) if this or [`params`](Self::params) was
         /// called before.
         fn async_ | try_async(&mut self, is_async: bool) -> &mut Self {
-            self.at(&[FuncStage::Start])?;
+            self.at(FuncStage::Start, FuncStage::Start)?;
             on!(&mut self.by, FuncBy, encoder => encoder.async_(is_async))?;
             Ok(self)
         }
@@ -73,7 +70,7 @@ impl ComponentFuncTypeEncoder<'_> {
         {
             let mut params = Labelled(params.into_iter());
             if const { is_array::<P>() } {
-                self.at(&BEFORE_PARAMS)?;
+                self.at(FuncStage::Start, FuncStage::Tagged)?;
                 if let FuncBy::Builder(encoder) = &mut self.by {
                     encoder.params(params)?;
                     return Ok(self);
@@ -87,7 +84,7 @@ impl ComponentFuncTypeEncoder<'_> {
         /// Fails with [`OutOfTurn`](Error::OutOfTurn) before [`params`](Self::params), or if it was
         /// called before.
         fn result | try_result(&mut self, ty: Option<ComponentValType>) -> &mut Self {
-            self.at(&[FuncStage::Params])?;
+            self.at(FuncStage::Params, FuncStage::Params)?;
             on!(&mut self.by, FuncBy, encoder => encoder.result(ty))?;
             Ok(self)
         }
