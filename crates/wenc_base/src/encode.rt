@@ -409,7 +409,27 @@ pub fn extend_in_room<A: Allocator>(sink: &mut Vec<u8, A>, bytes: &[u8])
     }
 }
 
-/// A tag byte that says what follows, such as an opcode, then a value.
+/// A byte that says what follows, such as an opcode, then a value. Fails with the first error met.
+#[derive(Clone, Copy)]
+pub struct Prefix<'a, T>(pub u8, pub &'a T);
+
+impl<'a, T: Encode> Encode for Prefix<'a, T> {
+    ghost piece = { λ p. p.0 ▸ T.piece p.1.now };
+
+    #[inline(always)]
+    fn encode<A: Allocator>(&self, sink: &mut Vec<u8, A>) -> Result<(), Fault> {
+        let start = sink.len();
+        if let Err(fault) = encode_byte(self.0, sink) {
+            return Err(fault);
+        }
+        match self.1.encode(sink) {
+            Ok(()) => Ok(()),
+            Err(fault) => cut(sink, start, fault),
+        }
+    }
+}
+
+/// A prefix and its value, which may be unfinished.
 #[derive(Clone, Copy)]
 pub struct Tagged<'a, T>(pub u8, pub &'a T);
 

@@ -3,7 +3,7 @@ ghost use Rattle.wenc_base.specs.Prelude.{itself, entity_type, entity_type_lawfu
 ghost use Rattle.wenc_base.specs.Prelude.{serves_itself};
 
 use crate::delimited::{Delimited, DelimitedEq};
-use crate::encode::{Encode, Tagged};
+use crate::encode::{Encode, Prefix};
 use crate::fault::Fault;
 use crate::globals::GlobalType;
 use crate::memories::MemoryType;
@@ -32,11 +32,11 @@ impl Encode for EntityType {
 
     fn encode<A: Allocator>(&self, sink: &mut Vec<u8, A>) -> Result<(), Fault> {
         match self {
-            EntityType::Function(index) => Tagged(0x00, index).encode(sink),
-            EntityType::Table(ty) => Tagged(0x01, ty).encode(sink),
-            EntityType::Memory(ty) => Tagged(0x02, ty).encode(sink),
-            EntityType::Global(ty) => Tagged(0x03, ty).encode(sink),
-            EntityType::Tag(ty) => Tagged(0x04, ty).encode(sink),
+            EntityType::Function(index) => Prefix(0x00, index).encode(sink),
+            EntityType::Table(ty) => Prefix(0x01, ty).encode(sink),
+            EntityType::Memory(ty) => Prefix(0x02, ty).encode(sink),
+            EntityType::Global(ty) => Prefix(0x03, ty).encode(sink),
+            EntityType::Tag(ty) => Prefix(0x04, ty).encode(sink),
         }
     }
 }

@@ -34,7 +34,8 @@ pub mod types;
 pub use custom::{CustomSection, RawCustomSection};
 pub use delimited::{Delimited, DelimitedEq};
 pub use encode::{
-    ByRef, Encode, Named, Tagged, Verbatim, WithSize, encode_byte, encode_list, extend_in_room,
+    ByRef, Encode, Named, Prefix, Tagged, Verbatim, WithSize, encode_byte, encode_list,
+    extend_in_room,
 };
 pub use exports::ExportKind;
 pub use fault::Fault;

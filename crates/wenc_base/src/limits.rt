@@ -2,7 +2,7 @@
 ghost use Rattle.std.specs.Prelude.{◌≡◌, ◌≤◌, if◌then◌else◌};
 ghost use Rattle.wenc_base.specs.Prelude.{limit_flags, limits};
 
-use crate::encode::{Encode, Tagged};
+use crate::encode::{Encode, Prefix};
 use crate::fault::Fault;
 use std::alloc::Allocator;
 
@@ -27,11 +27,11 @@ impl Encode for Limits {
         match self.maximum {
             None => {
                 let flags = flags(false, self.is_shared, self.is_long);
-                Tagged(flags, &self.minimum).encode(sink)
+                Prefix(flags, &self.minimum).encode(sink)
             }
             Some(maximum) => {
                 let flags = flags(true, self.is_shared, self.is_long);
-                Tagged(flags, &(self.minimum, maximum)).encode(sink)
+                Prefix(flags, &(self.minimum, maximum)).encode(sink)
             }
         }
     }

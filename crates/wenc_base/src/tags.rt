@@ -3,7 +3,7 @@ ghost use Rattle.wenc_base.specs.Prelude.{itself, tag_type, tag_type_lawful, as_
 ghost use Rattle.wenc_base.specs.Prelude.{serves_itself};
 
 use crate::delimited::{Delimited, DelimitedEq};
-use crate::encode::{Encode, Tagged};
+use crate::encode::{Encode, Prefix};
 use crate::fault::Fault;
 use std::alloc::Allocator;
 
@@ -19,7 +19,7 @@ impl Encode for TagType {
     ghost piece = { λ t. tag_type t };
 
     fn encode<A: Allocator>(&self, sink: &mut Vec<u8, A>) -> Result<(), Fault> {
-        Tagged(0x00, &self.func_type_idx).encode(sink)
+        Prefix(0x00, &self.func_type_idx).encode(sink)
     }
 }
 

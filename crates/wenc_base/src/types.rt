@@ -16,7 +16,7 @@ pub mod storage;
 pub mod sub;
 
 use crate::delimited::{Delimited, DelimitedEq};
-use crate::encode::{Encode, Tagged, encode_byte};
+use crate::encode::{Encode, Prefix, encode_byte};
 use crate::fault::Fault;
 pub use bytes::ByteTypes;
 pub use composite::{ArrayType, CompositeType, FuncType, StructType};
@@ -102,13 +102,13 @@ impl Encode for RefType {
 
     fn encode<A: Allocator>(&self, sink: &mut Vec<u8, A>) -> Result<(), Fault> {
         if !self.nullable {
-            return Tagged(0x64, &self.heap_type).encode(sink);
+            return Prefix(0x64, &self.heap_type).encode(sink);
         }
         match self.heap_type {
             HeapType::Abstract(AbstractHeapType::Func | AbstractHeapType::Extern) => {
                 self.heap_type.encode(sink)
             }
-            _ => Tagged(0x63, &self.heap_type).encode(sink),
+            _ => Prefix(0x63, &self.heap_type).encode(sink),
         }
     }
 }

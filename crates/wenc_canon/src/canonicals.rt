@@ -3,7 +3,7 @@ ghost use Rattle.std.specs.Prelude.{◌≡◌, ◌==◌, false, OnOk, IfOk, IfEr
 ghost use Rattle.std.specs.Iterator.{IsFinite};
 ghost use Rattle.wenc_base.specs.Prelude.{IsMemory, Appends, no_members, is_finished, held_section};
 ghost use Rattle.wenc_base.specs.Prelude.{ContainsSome, AddsMember, HasMembers, HasForm, itself};
-ghost use Rattle.wenc_base.specs.Prelude.{as_itself, serves_itself};
+ghost use Rattle.wenc_base.specs.Prelude.{as_itself, serves_itself, ◌▸◌, u32 as number};
 ghost use Rattle.wenc_canon.specs.Prelude.{AddsWithOptions, Lift, Lower, canonical};
 ghost use Rattle.wenc_canon.specs.Prelude.{canonical_option, canonical_option_lawful};
 ghost use Rattle.wenc_parts.specs.Prelude.{section_number};
@@ -13,7 +13,9 @@ use crate::fields::Fields;
 use crate::rows::{self, Row};
 use std::alloc::{Allocator, Global};
 use std::marker::Model;
-use wenc_base::{Delimited, DelimitedEq, Encode, Fault, Holder, Tagged, ValType};
+use wenc_base::{
+    Delimited, DelimitedEq, Encode, Fault, Holder, Prefix, Tagged, ValType, encode_byte,
+};
 use wenc_parts::{ComponentSection, ComponentSectionId};
 
 /// An option of a function that is lifted or lowered, or of a builtin that reads or writes values
@@ -47,18 +49,27 @@ impl Encode for CanonicalOption {
 
     fn encode<A: Allocator>(&self, sink: &mut Vec<u8, A>) -> Result<(), Fault> {
         match self {
-            CanonicalOption::UTF8 => Tagged(0x00, &()).encode(sink),
-            CanonicalOption::UTF16 => Tagged(0x01, &()).encode(sink),
-            CanonicalOption::CompactUTF16 => Tagged(0x02, &()).encode(sink),
-            CanonicalOption::Memory(index) => Tagged(0x03, index).encode(sink),
-            CanonicalOption::Realloc(index) => Tagged(0x04, index).encode(sink),
-            CanonicalOption::PostReturn(index) => Tagged(0x05, index).encode(sink),
-            CanonicalOption::Async => Tagged(0x06, &()).encode(sink),
-            CanonicalOption::Callback(index) => Tagged(0x07, index).encode(sink),
-            CanonicalOption::CoreType(index) => Tagged(0x08, index).encode(sink),
-            CanonicalOption::Gc => Tagged(0x09, &()).encode(sink),
+            CanonicalOption::UTF8 => encode_byte(0x00, sink),
+            CanonicalOption::UTF16 => encode_byte(0x01, sink),
+            CanonicalOption::CompactUTF16 => encode_byte(0x02, sink),
+            CanonicalOption::Memory(index) => encode_indexed(0x03, *index, sink),
+            CanonicalOption::Realloc(index) => encode_indexed(0x04, *index, sink),
+            CanonicalOption::PostReturn(index) => encode_indexed(0x05, *index, sink),
+            CanonicalOption::Async => encode_byte(0x06, sink),
+            CanonicalOption::Callback(index) => encode_indexed(0x07, *index, sink),
+            CanonicalOption::CoreType(index) => encode_indexed(0x08, *index, sink),
+            CanonicalOption::Gc => encode_byte(0x09, sink),
         }
     }
+}
+
+/// Appends the byte of an option, then an index.
+fn encode_indexed<A: Allocator>(option: u8, index: u32, sink: &mut Vec<u8, A>) -> Result<(), Fault>
+    ensures appended { let whole = option ▸ number index in
+        Appends whole.text whole.Cause ⊥ sink.old.items sink.new.items result }
+    ensures fits { OnOk result (option ▸ number index).Fits }
+{
+    Prefix(option, &index).encode(sink)
 }
 
 impl Delimited for CanonicalOption {
@@ -188,9 +199,10 @@ impl<A: Allocator> CanonicalFunctionSection<A> {
         ensures { AddsWithOptions I.next_gives options self.old self.new result
             (λ os. Lift core_func os ty) }
     {
+        // Without options it takes fewer instructions than a second `Prefix`.
         let lead = Tagged(rows::PLAIN, &core_func);
         self.functions
-            .add_listed(&Tagged(rows::LIFT.1, &lead), options, &ty)
+            .add_listed(&Prefix(rows::LIFT.1, &lead), options, &ty)
     }
 
     /// Lowers the component function with the index `func` to a core function (`canon lower`).
@@ -205,9 +217,10 @@ impl<A: Allocator> CanonicalFunctionSection<A> {
         ensures { AddsWithOptions I.next_gives options self.old self.new result
             (λ os. Lower func os) }
     {
+        // Without options it takes fewer instructions than a second `Prefix`.
         let lead = Tagged(rows::PLAIN, &func);
         self.functions
-            .add_listed(&Tagged(rows::LOWER.1, &lead), options, &())
+            .add_listed(&Prefix(rows::LOWER.1, &lead), options, &())
     }
 }
 
@@ -219,7 +232,7 @@ impl<A: Allocator> AddsRow for CanonicalFunctionSection<A> {
     ghost adds_with = { AddsWithOptions };
 
     fn add_row<F: Fields>(&mut self, row: Row, fields: &F) -> Result<(), Fault> {
-        self.functions.add_encoded(&Tagged(row.1, fields))
+        self.functions.add_encoded(&Prefix(row.1, fields))
     }
 
     fn add_row_with<F: Fields, I: Iterator<Item = CanonicalOption> + Drop>(
@@ -229,13 +242,13 @@ impl<A: Allocator> AddsRow for CanonicalFunctionSection<A> {
         options: I,
     ) -> Result<(), Fault> {
         self.functions
-            .add_listed(&Tagged(row.1, fields), options, &())
+            .add_listed(&Prefix(row.1, fields), options, &())
     }
 }
 
 impl<A: Allocator> AddsSlotRow for CanonicalFunctionSection<A> {
     fn add_slot_row(&mut self, row: Row, ty: ValType, slot: u32) -> Result<(), Fault> {
-        self.functions.add_encoded(&Tagged(row.1, &(ty, slot)))
+        self.functions.add_encoded(&Prefix(row.1, &(ty, slot)))
     }
 }
 

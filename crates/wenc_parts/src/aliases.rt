@@ -7,7 +7,7 @@ ghost use Rattle.wenc_parts.specs.Prelude.{alias_lawful, alias_tree_view};
 use crate::component::{COMPONENT_SORT, CORE_MODULE_SORT, CORE_SORT, CORE_TYPE_SORT, TYPE_SORT};
 use crate::exports::ComponentExportKind;
 use std::alloc::{Allocator, Global};
-use wenc_base::{Delimited, DelimitedEq, Encode, ExportKind, Fault, Tagged};
+use wenc_base::{Delimited, DelimitedEq, Encode, ExportKind, Fault, Prefix};
 
 /// The kind of an item of an enclosing component that an alias can name (component model, binary
 /// format, `sort`).
@@ -97,14 +97,14 @@ impl<'a> Encode for Alias<'a> {
                 instance,
                 kind,
                 name,
-            } => (*kind, Tagged(0x00, &(*instance, *name))).encode(sink),
+            } => (*kind, Prefix(0x00, &(*instance, *name))).encode(sink),
             Alias::CoreInstanceExport {
                 instance,
                 kind,
                 name,
-            } => Tagged(CORE_SORT, &(*kind, Tagged(0x01, &(*instance, *name)))).encode(sink),
+            } => Prefix(CORE_SORT, &(*kind, Prefix(0x01, &(*instance, *name)))).encode(sink),
             Alias::Outer { kind, count, index } => {
-                (*kind, Tagged(0x02, &(*count, *index))).encode(sink)
+                (*kind, Prefix(0x02, &(*count, *index))).encode(sink)
             }
         }
     }

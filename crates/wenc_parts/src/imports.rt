@@ -15,7 +15,7 @@ use crate::exports::ComponentExportKind;
 use crate::types::ComponentValType;
 use std::alloc::{Allocator, Global};
 use std::borrow::CowStr;
-use wenc_base::{Delimited, DelimitedEq, Encode, Fault, Tagged, encode_byte};
+use wenc_base::{Delimited, DelimitedEq, Encode, Fault, Prefix, encode_byte};
 
 /// The bounds of an imported or exported type (component model, binary format, `typebound`).
 #[derive(Clone, Copy, PartialEq, Eq, Hash)]
@@ -31,7 +31,7 @@ impl Encode for TypeBounds {
 
     fn encode<A: Allocator>(&self, sink: &mut Vec<u8, A>) -> Result<(), Fault> {
         match self {
-            TypeBounds::Eq(index) => Tagged(0x00, index).encode(sink),
+            TypeBounds::Eq(index) => Prefix(0x00, index).encode(sink),
             TypeBounds::SubResource => encode_byte(0x01, sink),
         }
     }
@@ -156,7 +156,7 @@ impl<'a, A: Allocator> ComponentExternName<'a, A> {
         let version_suffix = OptionEntry(0x01, &self.version_suffix);
         let external_id = OptionEntry(0x02, &self.external_id);
         let options = (count, (implements, (version_suffix, external_id)));
-        Tagged(0x02, &(name, options)).encode(sink)
+        Prefix(0x02, &(name, options)).encode(sink)
     }
 
     /// Returns a copy of the name.
@@ -188,7 +188,7 @@ impl<'a, A: Allocator> Encode for ComponentExternName<'a, A> {
         if self.option_count() != 0 {
             return self.encode_with_options(sink);
         }
-        Tagged(0x00, &self.name.as_str()).encode(sink)
+        Prefix(0x00, &self.name.as_str()).encode(sink)
     }
 }
 
@@ -208,7 +208,7 @@ impl<'a, 'b, A: Allocator> Encode for OptionEntry<'a, 'b, A> {
     fn encode<B: Allocator>(&self, sink: &mut Vec<u8, B>) -> Result<(), Fault> {
         match self.1 {
             None => Ok(()),
-            Some(text) => Tagged(self.0, &text.as_str()).encode(sink),
+            Some(text) => Prefix(self.0, &text.as_str()).encode(sink),
         }
     }
 }

@@ -4,7 +4,7 @@ ghost use Rattle.wenc_parts.specs.Prelude.{module_argument, module_argument_lawf
 
 use crate::component::CORE_INSTANCE_SORT;
 use std::alloc::Allocator;
-use wenc_base::{Delimited, DelimitedEq, Encode, Fault, Tagged};
+use wenc_base::{Delimited, DelimitedEq, Encode, Fault, Prefix};
 
 /// An argument for a name that a core module imports (component model, binary format,
 /// `core:instantiatearg`).
@@ -20,7 +20,7 @@ impl Encode for ModuleArg {
     #[inline(always)]
     fn encode<A: Allocator>(&self, sink: &mut Vec<u8, A>) -> Result<(), Fault> {
         match self {
-            ModuleArg::Instance(index) => Tagged(CORE_INSTANCE_SORT, index).encode(sink),
+            ModuleArg::Instance(index) => Prefix(CORE_INSTANCE_SORT, index).encode(sink),
         }
     }
 }

@@ -6,7 +6,7 @@ ghost use Rattle.wenc_parts.specs.Prelude.{value_type_lawful, result_list, resul
 ghost use Rattle.wenc_parts.specs.Prelude.{same_result_list};
 
 use std::alloc::Allocator;
-use wenc_base::{Delimited, DelimitedEq, Encode, Fault, Tagged, encode_byte};
+use wenc_base::{Delimited, DelimitedEq, Encode, Fault, Prefix, encode_byte};
 
 /// A primitive value type of a component (component model, binary format, `primvaltype`).
 #[derive(Clone, Copy, Debug, PartialEq, Eq, Hash)]
@@ -123,8 +123,8 @@ impl Encode for ResultList {
 
     fn encode<A: Allocator>(&self, sink: &mut Vec<u8, A>) -> Result<(), Fault> {
         match self.0 {
-            Some(ty) => Tagged(0x00, &ty).encode(sink),
-            None => Tagged(0x01, &Tagged(0x00, &())).encode(sink),
+            Some(ty) => Prefix(0x00, &ty).encode(sink),
+            None => Prefix(0x01, &Prefix(0x00, &())).encode(sink),
         }
     }
 }

@@ -6,7 +6,7 @@ ghost use Rattle.wenc_canon.specs.Prelude.{builtin_name, canonical_lawful};
 ghost use Rattle.wenc_sections.specs.Prelude.{canon_view, operand_behind};
 
 use std::alloc::{AllocError, Allocator, Global};
-use wenc_base::{Delimited, Encode, Fault, Tagged, ValType};
+use wenc_base::{Delimited, Encode, Fault, Prefix, Tagged, ValType};
 use wenc_canon::rows::{self, Row};
 use wenc_canon::{CanonicalOption, Fields, NotCancellable};
 use wenc_parts::{ComponentValType, ResultList};
@@ -390,14 +390,14 @@ impl<'a, A: Allocator> Operands<'a, A> {
         match self {
             Operands::Lifted(core_func, ty, options) => lifted(core_func, *ty, options, sink),
             Operands::Lowered(func, options) => lowered(func, options, sink),
-            Operands::Nothing => Tagged(opcode, &()).encode(sink),
-            Operands::NotCancellable => Tagged(opcode, &NotCancellable).encode(sink),
-            Operands::Index(index) => Tagged(opcode, index).encode(sink),
-            Operands::Flag(async_) => Tagged(opcode, async_).encode(sink),
-            Operands::Memory(memory) => Tagged(opcode, &(NotCancellable, *memory)).encode(sink),
-            Operands::IndexAndFlag(ty, async_) => Tagged(opcode, &(*ty, *async_)).encode(sink),
-            Operands::Indices(ty, table) => Tagged(opcode, &(*ty, *table)).encode(sink),
-            Operands::Slot(ty, slot) => Tagged(opcode, &(*ty, *slot)).encode(sink),
+            Operands::Nothing => Prefix(opcode, &()).encode(sink),
+            Operands::NotCancellable => Prefix(opcode, &NotCancellable).encode(sink),
+            Operands::Index(index) => Prefix(opcode, index).encode(sink),
+            Operands::Flag(async_) => Prefix(opcode, async_).encode(sink),
+            Operands::Memory(memory) => Prefix(opcode, &(NotCancellable, *memory)).encode(sink),
+            Operands::IndexAndFlag(ty, async_) => Prefix(opcode, &(*ty, *async_)).encode(sink),
+            Operands::Indices(ty, table) => Prefix(opcode, &(*ty, *table)).encode(sink),
+            Operands::Slot(ty, slot) => Prefix(opcode, &(*ty, *slot)).encode(sink),
             Operands::Options(options) => with_options(opcode, &(), options, sink),
             Operands::IndexAndOptions(ty, options) => with_options(opcode, ty, options, sink),
             Operands::ResultsAndOptions(ty, options) => {
@@ -447,8 +447,8 @@ fn lifted<A: Allocator, B: Allocator>(
         Appends function.text function.Cause ⊥ sink.old.items sink.new.items result }
     ensures fits { OnOk result (canonical (Lift core_func.now options.now.items ty)).Fits }
 {
-    let lead = Tagged(rows::PLAIN, core_func);
-    (Tagged(rows::LIFT.1, &lead), options.as_slice(), ty).encode(sink)
+    let lead = Prefix(rows::PLAIN, core_func);
+    (Prefix(rows::LIFT.1, &lead), options.as_slice(), ty).encode(sink)
 }
 
 /// Appends a function that is lowered.
@@ -461,6 +461,6 @@ fn lowered<A: Allocator, B: Allocator>(
         Appends function.text function.Cause ⊥ sink.old.items sink.new.items result }
     ensures fits { OnOk result (canonical (Lower func.now options.now.items)).Fits }
 {
-    let lead = Tagged(rows::PLAIN, func);
-    (Tagged(rows::LOWER.1, &lead), options.as_slice()).encode(sink)
+    let lead = Prefix(rows::PLAIN, func);
+    (Prefix(rows::LOWER.1, &lead), options.as_slice()).encode(sink)
 }

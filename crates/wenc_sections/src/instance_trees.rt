@@ -8,7 +8,7 @@ ghost use Rattle.wenc_sections.specs.Prelude.{instance_tree_view, instance, inst
 
 use crate::instances::{CORE_EXPORTS, CORE_INSTANTIATE, EXPORTS, INSTANTIATE};
 use std::alloc::{Allocator, Global};
-use wenc_base::{Delimited, Encode, ExportKind, Fault, Tagged};
+use wenc_base::{Delimited, Encode, ExportKind, Fault, Prefix};
 use wenc_parts::{ComponentExportKind, ModuleArg, NameTree};
 
 /// An instance of a core module, with owned names, for commands (component model, binary format,
@@ -41,10 +41,10 @@ impl<A: Allocator> Encode for CoreInstanceTree<A> {
     fn encode<B: Allocator>(&self, sink: &mut Vec<u8, B>) -> Result<(), Fault> {
         match self {
             CoreInstanceTree::Instantiate { module, args } => {
-                Tagged(CORE_INSTANTIATE, &(*module, args.as_slice())).encode(sink)
+                Prefix(CORE_INSTANTIATE, &(*module, args.as_slice())).encode(sink)
             }
             CoreInstanceTree::Exports(exports) => {
-                Tagged(CORE_EXPORTS, &exports.as_slice()).encode(sink)
+                Prefix(CORE_EXPORTS, &exports.as_slice()).encode(sink)
             }
         }
     }
@@ -86,10 +86,10 @@ impl<A: Allocator> Encode for InstanceTree<A> {
     fn encode<B: Allocator>(&self, sink: &mut Vec<u8, B>) -> Result<(), Fault> {
         match self {
             InstanceTree::Instantiate { component, args } => {
-                Tagged(INSTANTIATE, &(*component, args.as_slice())).encode(sink)
+                Prefix(INSTANTIATE, &(*component, args.as_slice())).encode(sink)
             }
             InstanceTree::Exports(exports) => {
-                Tagged(EXPORTS, &ExportList(exports.as_slice())).encode(sink)
+                Prefix(EXPORTS, &ExportList(exports.as_slice())).encode(sink)
             }
         }
     }

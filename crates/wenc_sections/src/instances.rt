@@ -9,7 +9,7 @@ ghost use Rattle.wenc_sections.specs.Prelude.{named_triple};
 
 use crate::counted::{Counted, CountedKind};
 use std::alloc::{Allocator, Global};
-use wenc_base::{ExportKind, Fault, Named, Tagged};
+use wenc_base::{ExportKind, Fault, Named, Prefix};
 use wenc_parts::{ComponentExportKind, ComponentExternName, ComponentSectionId, ModuleArg};
 
 /// The tag of a core instance that instantiates a module (component model, binary format,
@@ -74,7 +74,7 @@ impl<A: Allocator> Counted<CoreInstances, A> {
             (λ vs. core_instance (CoreInstantiate module_index (map (named_pair S.named) vs)))
             self.old self.new result }
     {
-        let lead = Tagged(CORE_INSTANTIATE, &module_index);
+        let lead = Prefix(CORE_INSTANTIATE, &module_index);
         self.items.add_listed(&lead, args, &())
     }
 
@@ -94,7 +94,7 @@ impl<A: Allocator> Counted<CoreInstances, A> {
             (λ vs. core_instance (CoreExports (map (named_triple S.named) vs)))
             self.old self.new result }
     {
-        let lead = Tagged(CORE_EXPORTS, &());
+        let lead = Prefix(CORE_EXPORTS, &());
         self.items.add_listed(&lead, exports, &())
     }
 }
@@ -149,7 +149,7 @@ impl<A: Allocator> Counted<Instances, A> {
             (λ vs. instance (Instantiate component_index (map (named_triple S.named) vs)))
             self.old self.new result }
     {
-        let lead = Tagged(INSTANTIATE, &component_index);
+        let lead = Prefix(INSTANTIATE, &component_index);
         self.items.add_listed(&lead, args, &())
     }
 
@@ -169,7 +169,7 @@ impl<A: Allocator> Counted<Instances, A> {
             (λ vs. instance (Exports (map (named_triple extern_name_view) vs)))
             self.old self.new result }
     {
-        let lead = Tagged(EXPORTS, &());
+        let lead = Prefix(EXPORTS, &());
         self.items.add_listed(&lead, exports, &())
     }
 }

@@ -11,7 +11,7 @@ use crate::space::Space;
 use std::alloc::{Allocator, Global};
 use std::marker::Model;
 use wenc_base::{
-    ByRef, CustomSection, Delimited, Encode, Fault, NameMap, Tagged, Verbatim, WithSize,
+    ByRef, CustomSection, Delimited, Encode, Fault, NameMap, Prefix, Tagged, Verbatim, WithSize,
 };
 use wenc_parts::component::{
     COMPONENT_SORT, CORE_INSTANCE_SORT, CORE_MODULE_SORT, CORE_SORT, CORE_TYPE_SORT, FUNCTION_SORT,
@@ -68,7 +68,7 @@ impl<'a, A: Allocator> Encode for NamesOf<'a, A> {
         let Ok(size) = u32::try_from(kind.len() + self.1.size()) else {
             return Err(Fault::TooLarge);
         };
-        Tagged(ITEM_NAMES, &(size, Verbatim(kind), ByRef(self.1))).encode(sink)
+        Prefix(ITEM_NAMES, &(size, Verbatim(kind), ByRef(self.1))).encode(sink)
     }
 }
 
@@ -123,7 +123,7 @@ impl<A: Allocator> ComponentNameSection<A> {
     pub fn component(&mut self, name: &str) -> Result<(), Fault>
         ensures { AppendsSubsection (subsection (ComponentName name.now)) self.old self.new result }
     {
-        self.append(&Tagged(COMPONENT_NAME, &WithSize(&name)))
+        self.append(&Prefix(COMPONENT_NAME, &WithSize(&name)))
     }
 
     /// Names core functions.

@@ -15,7 +15,7 @@ ghost use Rattle.wenc_types.specs.declared.encoders.func_type.FuncStage.TheVaria
 
 use crate::counted::{Counted, CountedKind, EncoderKind};
 use std::alloc::{Allocator, Global};
-use wenc_base::{Fault, Tagged, ValType};
+use wenc_base::{Fault, Prefix, ValType};
 use wenc_parts::ComponentSectionId;
 use wenc_types::{
     ComponentCoreTypeEncoder, ComponentDefinedTypeEncoder, ComponentFuncTypeEncoder, ComponentType,
@@ -216,6 +216,6 @@ impl<A: Allocator> Counted<ComponentTypes, A> {
     pub fn resource(&mut self, rep: ValType, dtor: Option<u32>) -> Result<(), Fault>
         ensures { AddsMember (def_type (ResourceType rep dtor)) self.old self.new result }
     {
-        self.items.add_encoded(&Tagged(0x3f, &(rep, dtor)))
+        self.items.add_encoded(&Prefix(0x3f, &(rep, dtor)))
     }
 }

@@ -9,7 +9,7 @@ ghost use Rattle.wenc_types.specs.Prelude.{component_space};
 use crate::counts::space_of_kind;
 use crate::declarations::{Declarations, DeclaredKind, DeclaringKind};
 use std::alloc::{Allocator, Global};
-use wenc_base::{Fault, Tagged};
+use wenc_base::{Fault, Prefix};
 use wenc_parts::{ComponentExternName, ComponentTypeRef, TypeBounds};
 
 /// The kind of component types.
@@ -66,7 +66,7 @@ impl<A: Allocator> Declarations<ComponentTypes, A> {
         ensures { AddsToComponent self.old self.new result
             (Imported (extern_name_view name.entry) ty) }
     {
-        self.add(&Tagged(0x03, &(name, ty)), space_of_kind(ty.kind()))
+        self.add(&Prefix(0x03, &(name, ty)), space_of_kind(ty.kind()))
     }
 
     /// Declares an import of a type with this name. Returns its index in the index space of types.

@@ -8,7 +8,7 @@ ghost use Rattle.wenc_types.specs.Prelude.{module_declaration_view, module_decla
 
 use std::alloc::{Allocator, Global};
 use wenc_base::{
-    Delimited, DelimitedEq, Encode, EntityType, Fault, GroupTree, Guarded, Tagged, Verbatim,
+    Delimited, DelimitedEq, Encode, EntityType, Fault, GroupTree, Guarded, Prefix, Verbatim,
 };
 
 /// A core type that a component defines, as a tree: core types, or the type of a module (component
@@ -43,7 +43,7 @@ impl<A: Allocator> Encode for CoreTypeTree<A> {
     fn encode<B: Allocator>(&self, sink: &mut Vec<u8, B>) -> Result<(), Fault> {
         match self {
             CoreTypeTree::Group(group) => Guarded(true, group).encode(sink),
-            CoreTypeTree::Module(decls) => Tagged(0x50, &decls.as_slice()).encode(sink),
+            CoreTypeTree::Module(decls) => Prefix(0x50, &decls.as_slice()).encode(sink),
         }
     }
 }
@@ -103,14 +103,14 @@ impl<A: Allocator> Encode for ModuleDecl<A> {
     fn encode<B: Allocator>(&self, sink: &mut Vec<u8, B>) -> Result<(), Fault> {
         match self {
             ModuleDecl::Import { module, name, ty } => {
-                Tagged(0x00, &(module.as_str(), name.as_str(), *ty)).encode(sink)
+                Prefix(0x00, &(module.as_str(), name.as_str(), *ty)).encode(sink)
             }
-            ModuleDecl::Type(group) => Tagged(0x01, group).encode(sink),
+            ModuleDecl::Type(group) => Prefix(0x01, group).encode(sink),
             ModuleDecl::Alias { count, index } => {
                 let sort_and_kind = Verbatim(&[0x10, 0x01]);
-                Tagged(0x02, &(sort_and_kind, *count, *index)).encode(sink)
+                Prefix(0x02, &(sort_and_kind, *count, *index)).encode(sink)
             }
-            ModuleDecl::Export { name, ty } => Tagged(0x03, &(name.as_str(), *ty)).encode(sink),
+            ModuleDecl::Export { name, ty } => Prefix(0x03, &(name.as_str(), *ty)).encode(sink),
         }
     }
 }

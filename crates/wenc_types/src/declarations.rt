@@ -28,7 +28,7 @@ use crate::encoders::func_type::ComponentFuncTypeEncoder;
 use crate::encoders::ty::ComponentTypeEncoder;
 use std::alloc::{Allocator, Global};
 use std::marker::{Model, PhantomData};
-use wenc_base::{Encode, Fault, Holder, Parent, Tagged};
+use wenc_base::{Encode, Fault, Holder, Parent, Prefix, Tagged};
 use wenc_parts::{
     Alias, ComponentExportKind, ComponentExternName, ComponentOuterAliasKind, ComponentTypeRef,
     TypeBounds,
@@ -301,7 +301,7 @@ impl<K: DeclaringKind, A: Allocator> Declarations<K, A> {
             (K.declared (Aliased (alias_view alias.entry))) }
     {
         let space = space_of_alias(&alias);
-        self.add(&Tagged(0x02, &alias), space)
+        self.add(&Prefix(0x02, &alias), space)
     }
 
     /// Declares an export with this name.
@@ -317,7 +317,7 @@ impl<K: DeclaringKind, A: Allocator> Declarations<K, A> {
         ensures { AddsDeclared K.form K.space self.old self.new result
             (K.declared (Exported (extern_name_view name.entry) ty)) }
     {
-        self.add(&Tagged(0x04, &(name, ty)), space_of_kind(ty.kind()))
+        self.add(&Prefix(0x04, &(name, ty)), space_of_kind(ty.kind()))
     }
 
     /// Declares an alias of a type, which the instance with the index `instance` exports under this

@@ -6,7 +6,7 @@ ghost use Rattle.wenc_types.specs.Prelude.{labelled_type_view, case_view, alike_
 ghost use Rattle.wenc_types.specs.Prelude.{named_sees, case_sees, defined_sees, case, case_lawful};
 
 use std::alloc::{Allocator, Global};
-use wenc_base::{Delimited, DelimitedEq, Encode, Fault, Tagged};
+use wenc_base::{Delimited, DelimitedEq, Encode, Fault, Prefix};
 use wenc_parts::{ComponentValType, PrimitiveValType};
 
 /// A type of values that a component defines, as a tree (component model, binary format, "Type
@@ -76,22 +76,22 @@ impl<A: Allocator> Encode for DefinedTree<A> {
     fn encode<B: Allocator>(&self, sink: &mut Vec<u8, B>) -> Result<(), Fault> {
         match self {
             DefinedTree::Primitive(ty) => ty.encode(sink),
-            DefinedTree::Record(fields) => Tagged(0x72, &fields.as_slice()).encode(sink),
-            DefinedTree::Variant(cases) => Tagged(0x71, &cases.as_slice()).encode(sink),
-            DefinedTree::List(element) => Tagged(0x70, element).encode(sink),
-            DefinedTree::Map { key, value } => Tagged(0x63, &(*key, *value)).encode(sink),
+            DefinedTree::Record(fields) => Prefix(0x72, &fields.as_slice()).encode(sink),
+            DefinedTree::Variant(cases) => Prefix(0x71, &cases.as_slice()).encode(sink),
+            DefinedTree::List(element) => Prefix(0x70, element).encode(sink),
+            DefinedTree::Map { key, value } => Prefix(0x63, &(*key, *value)).encode(sink),
             DefinedTree::FixedLengthList { element, length } => {
-                Tagged(0x67, &(*element, *length)).encode(sink)
+                Prefix(0x67, &(*element, *length)).encode(sink)
             }
-            DefinedTree::Tuple(elements) => Tagged(0x6f, &elements.as_slice()).encode(sink),
-            DefinedTree::Flags(names) => Tagged(0x6e, &names.as_slice()).encode(sink),
-            DefinedTree::Enum(names) => Tagged(0x6d, &names.as_slice()).encode(sink),
-            DefinedTree::Option(ty) => Tagged(0x6b, ty).encode(sink),
-            DefinedTree::Result { ok, err } => Tagged(0x6a, &(*ok, *err)).encode(sink),
-            DefinedTree::Own(index) => Tagged(0x69, index).encode(sink),
-            DefinedTree::Borrow(index) => Tagged(0x68, index).encode(sink),
-            DefinedTree::Future(ty) => Tagged(0x65, ty).encode(sink),
-            DefinedTree::Stream(ty) => Tagged(0x66, ty).encode(sink),
+            DefinedTree::Tuple(elements) => Prefix(0x6f, &elements.as_slice()).encode(sink),
+            DefinedTree::Flags(names) => Prefix(0x6e, &names.as_slice()).encode(sink),
+            DefinedTree::Enum(names) => Prefix(0x6d, &names.as_slice()).encode(sink),
+            DefinedTree::Option(ty) => Prefix(0x6b, ty).encode(sink),
+            DefinedTree::Result { ok, err } => Prefix(0x6a, &(*ok, *err)).encode(sink),
+            DefinedTree::Own(index) => Prefix(0x69, index).encode(sink),
+            DefinedTree::Borrow(index) => Prefix(0x68, index).encode(sink),
+            DefinedTree::Future(ty) => Prefix(0x65, ty).encode(sink),
+            DefinedTree::Stream(ty) => Prefix(0x66, ty).encode(sink),
         }
     }
 }
@@ -130,7 +130,7 @@ impl<A: Allocator> Encode for CaseTree<A> {
 
     fn encode<B: Allocator>(&self, sink: &mut Vec<u8, B>) -> Result<(), Fault> {
         // The last byte says that the case refines no other.
-        (self.name.as_str(), self.ty, Tagged(0x00, &())).encode(sink)
+        (self.name.as_str(), self.ty, Prefix(0x00, &())).encode(sink)
     }
 }
 

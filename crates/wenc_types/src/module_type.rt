@@ -11,7 +11,7 @@ ghost use Rattle.wenc_types.specs.declared.counts.IndexSpace.TheVariants as spac
 use crate::counts::IndexSpace;
 use crate::declarations::{Declarations, DeclaredKind};
 use std::alloc::{Allocator, Global};
-use wenc_base::{CoreTypeEncoder, EntityType, Fault, Tagged, Verbatim};
+use wenc_base::{CoreTypeEncoder, EntityType, Fault, Prefix, Verbatim};
 
 /// The kind of module types.
 pub struct ModuleTypes;
@@ -55,7 +55,7 @@ impl<A: Allocator> Declarations<ModuleTypes, A> {
     pub fn import(&mut self, module: &str, name: &str, ty: EntityType) -> Result<(), Fault>
         ensures { AddsToModule self.old self.new result (ModuleImport «module».now name.now ty) }
     {
-        self.add(&Tagged(0x00, &(module, name, ty)), None)
+        self.add(&Prefix(0x00, &(module, name, ty)), None)
     }
 
     /// Declares an alias of the core type with this index in the scope that is `count` scopes
@@ -69,7 +69,7 @@ impl<A: Allocator> Declarations<ModuleTypes, A> {
     {
         let sort_and_kind = Verbatim(&[0x10, 0x01]);
         self.add(
-            &Tagged(0x02, &(sort_and_kind, count, index)),
+            &Prefix(0x02, &(sort_and_kind, count, index)),
             Some(IndexSpace::Type),
         )
     }
@@ -99,7 +99,7 @@ impl<A: Allocator> Declarations<ModuleTypes, A> {
     pub fn export(&mut self, name: &str, ty: EntityType) -> Result<(), Fault>
         ensures { AddsToModule self.old self.new result (ModuleExport name.now ty) }
     {
-        self.add(&Tagged(0x03, &(name, ty)), None)
+        self.add(&Prefix(0x03, &(name, ty)), None)
     }
 
     /// Begins a core type, and returns its encoder.

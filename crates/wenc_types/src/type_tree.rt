@@ -11,7 +11,7 @@ ghost use Rattle.wenc_types.specs.Prelude.{component_declaration_lawful};
 use crate::core_type_tree::CoreTypeTree;
 use crate::defined_tree::DefinedTree;
 use std::alloc::{Allocator, Global};
-use wenc_base::{Delimited, Encode, Fault, Tagged, ValType};
+use wenc_base::{Delimited, Encode, Fault, Prefix, Tagged, ValType};
 use wenc_parts::{AliasTree, ComponentTypeRef, ComponentValType, NameTree, ResultList};
 
 /// A type that a component defines, as a tree of any depth (component model, binary format, "Type
@@ -110,7 +110,7 @@ impl<A: Allocator> Encode for TypeTree<A> {
             } => encode_function(*is_async, params, *result, sink),
             TypeTree::Component(decls) => encode_members(0x41, decls, sink),
             TypeTree::Instance(decls) => encode_members(0x42, decls, sink),
-            TypeTree::Resource { rep, dtor } => Tagged(0x3f, &(*rep, *dtor)).encode(sink),
+            TypeTree::Resource { rep, dtor } => Prefix(0x3f, &(*rep, *dtor)).encode(sink),
         }
     }
 }
@@ -121,9 +121,9 @@ impl<A: Allocator> Encode for InstanceDecl<A> {
     #[cycle(encode)]
     fn encode<B: Allocator>(&self, sink: &mut Vec<u8, B>) -> Result<(), Fault> {
         match self {
-            InstanceDecl::CoreType(ty) => Tagged(0x00, ty).encode(sink),
+            InstanceDecl::CoreType(ty) => Prefix(0x00, ty).encode(sink),
             InstanceDecl::Type(ty) => encode_tagged(0x01, ty, sink),
-            InstanceDecl::Alias(alias) => Tagged(0x02, &alias.as_alias()).encode(sink),
+            InstanceDecl::Alias(alias) => Prefix(0x02, &alias.as_alias()).encode(sink),
             InstanceDecl::Export { name, ty } => encode_extern(0x04, name, *ty, sink),
         }
     }
@@ -182,7 +182,7 @@ fn encode_members<T: Encode, A: Allocator, B: Allocator>(
         Appends members.text members.Cause ⊥ sink.old.items sink.new.items result }
     ensures fits { OnOk result (tag ▸ list_in_order T.piece values.now.items).Fits }
 {
-    Tagged(tag, &values.as_slice()).encode(sink)
+    Prefix(tag, &values.as_slice()).encode(sink)
 }
 
 /// Appends the type of a function, whose tag says whether it is asynchronous.
@@ -199,7 +199,7 @@ fn encode_function<A: Allocator, B: Allocator>(
         (function_type (function_view is_async params.now.items answer)).Fits }
 {
     let tag = if is_async { 0x43 } else { 0x40 };
-    Tagged(tag, &(params.as_slice(), ResultList(answer))).encode(sink)
+    Prefix(tag, &(params.as_slice(), ResultList(answer))).encode(sink)
 }
 
 /// Appends a tag, which says whether the item is imported or exported, then a name and the item's
@@ -216,5 +216,5 @@ fn encode_extern<A: Allocator, B: Allocator>(
     ensures fits { OnOk result
         (tag ▸ (extern_name (name_tree_view name.now) ⨾ type_reference ty)).Fits }
 {
-    Tagged(tag, &(name.as_name(), ty)).encode(sink)
+    Prefix(tag, &(name.as_name(), ty)).encode(sink)
 }

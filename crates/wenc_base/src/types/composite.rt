@@ -11,7 +11,7 @@ ghost use Rattle.wenc_base.specs.Prelude.{serves_itself};
 use super::ValType;
 use super::storage::FieldType;
 use crate::delimited::{Delimited, DelimitedEq};
-use crate::encode::{Encode, Tagged};
+use crate::encode::{Encode, Prefix};
 use crate::fault::Fault;
 use std::alloc::{Allocator, Global};
 
@@ -82,7 +82,7 @@ impl<A: Allocator> Encode for FuncType<A> {
     ghost piece = { λ f. composite_type (func_type_view f) };
 
     fn encode<B: Allocator>(&self, sink: &mut Vec<u8, B>) -> Result<(), Fault> {
-        Tagged(0x60, &(self.params(), self.results())).encode(sink)
+        Prefix(0x60, &(self.params(), self.results())).encode(sink)
     }
 }
 
@@ -106,7 +106,7 @@ impl Encode for ArrayType {
     ghost piece = { λ a. composite_type (array_view a) };
 
     fn encode<A: Allocator>(&self, sink: &mut Vec<u8, A>) -> Result<(), Fault> {
-        Tagged(0x5e, &self.0).encode(sink)
+        Prefix(0x5e, &self.0).encode(sink)
     }
 }
 
@@ -133,7 +133,7 @@ impl<A: Allocator> Encode for StructType<A> {
     ghost piece = { λ s. composite_type (structure_view s) };
 
     fn encode<B: Allocator>(&self, sink: &mut Vec<u8, B>) -> Result<(), Fault> {
-        Tagged(0x5f, &self.fields.as_slice()).encode(sink)
+        Prefix(0x5f, &self.fields.as_slice()).encode(sink)
     }
 }
 

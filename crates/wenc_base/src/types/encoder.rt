@@ -8,7 +8,7 @@ ghost use Rattle.wenc_base.specs.Prelude.{◌▸◌, val_type, composite_type};
 
 use super::guard::Guarded;
 use super::{ArrayType, ByteTypes, FieldType, FuncType, GroupTree, StorageType, SubType, ValType};
-use crate::encode::{ByRef, Tagged};
+use crate::encode::{ByRef, Prefix};
 use crate::fault::Fault;
 use crate::parent::Parent;
 use std::alloc::Allocator;
@@ -79,7 +79,7 @@ impl<'a, L: Parent> CoreTypeEncoder<'a, L> {
             (composite_type (Func params.now results.now)) }
     {
         let lists = (ByRef(params), ByRef(results));
-        self.parent.end_with(&Tagged(0x60, &lists))
+        self.parent.end_with(&Prefix(0x60, &lists))
     }
 
     /// Writes a final function type with these parameters and results.
@@ -87,7 +87,7 @@ impl<'a, L: Parent> CoreTypeEncoder<'a, L> {
         ensures { Ends L.appended L.ended L.refuses self.entry.parent.now self.exit.0.now result
             (composite_type (Func params.now results.now)) }
     {
-        self.parent.end_with(&Tagged(0x60, &(params, results)))
+        self.parent.end_with(&Prefix(0x60, &(params, results)))
     }
 
     /// Writes this function type, as a final one.
@@ -126,7 +126,7 @@ impl<'a, L: Parent> CoreTypeEncoder<'a, L> {
         ensures { Ends L.appended L.ended L.refuses self.entry.parent.now self.exit.0.now result
             (composite_type (Struct fields.now)) }
     {
-        self.parent.end_with(&Tagged(0x5f, &fields))
+        self.parent.end_with(&Prefix(0x5f, &fields))
     }
 
     /// Writes this type.

@@ -7,7 +7,7 @@ ghost use Rattle.wenc_base.specs.Prelude.{serves_itself};
 
 use super::sub::SubType;
 use crate::delimited::{Delimited, DelimitedEq};
-use crate::encode::{Encode, Tagged};
+use crate::encode::{Encode, Prefix};
 use crate::fault::Fault;
 use std::alloc::{Allocator, Global};
 
@@ -28,7 +28,7 @@ impl<A: Allocator> Encode for GroupTree<A> {
     fn encode<B: Allocator>(&self, sink: &mut Vec<u8, B>) -> Result<(), Fault> {
         match self {
             GroupTree::Sub(ty) => ty.encode(sink),
-            GroupTree::Rec(types) => Tagged(0x4e, &types.as_slice()).encode(sink),
+            GroupTree::Rec(types) => Prefix(0x4e, &types.as_slice()).encode(sink),
         }
     }
 }

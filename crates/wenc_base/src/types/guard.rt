@@ -2,7 +2,7 @@
 ghost use Rattle.wenc_base.specs.Prelude.{Single, standing, sub_view, rec_type_view};
 
 use super::{GroupTree, SubType};
-use crate::encode::{Encode, Tagged};
+use crate::encode::{Encode, Prefix};
 use crate::fault::Fault;
 use std::alloc::Allocator;
 
@@ -18,7 +18,7 @@ impl<'a, A: Allocator> Encode for Guarded<'a, SubType<A>> {
 
     fn encode<B: Allocator>(&self, sink: &mut Vec<u8, B>) -> Result<(), Fault> {
         if self.0 && !self.1.is_final {
-            return Tagged(0x00, self.1).encode(sink);
+            return Prefix(0x00, self.1).encode(sink);
         }
         self.1.encode(sink)
     }

@@ -7,7 +7,7 @@ ghost use Rattle.wenc_base.specs.Prelude.{last_of_three, as_seen, serves_itself}
 
 use super::composite::CompositeType;
 use crate::delimited::{Delimited, DelimitedEq};
-use crate::encode::{ByRef, Encode, Tagged};
+use crate::encode::{ByRef, Encode, Prefix};
 use crate::fault::Fault;
 use std::alloc::{Allocator, Global};
 
@@ -32,7 +32,7 @@ impl<A: Allocator> Encode for SubType<A> {
         match (self.is_final, self.supertype_idx) {
             (true, None) => ty.encode(sink),
             (true, Some(index)) => encode_extension(0x4f, index, ty, sink),
-            (false, None) => Tagged(0x50, &Tagged(0x00, ty)).encode(sink),
+            (false, None) => Prefix(0x50, &Prefix(0x00, ty)).encode(sink),
             (false, Some(index)) => encode_extension(0x50, index, ty, sink),
         }
     }
@@ -69,7 +69,7 @@ fn encode_extension<T: Encode, A: Allocator>(
         Appends extension.text extension.Cause ⊥ sink.old.items sink.new.items result }
     ensures fits { OnOk result (tag ▸ (option number (Some index) ⨾ T.piece ty.now)).Fits }
 {
-    Tagged(tag, &Tagged(0x01, &(index, ByRef(ty)))).encode(sink)
+    Prefix(tag, &Prefix(0x01, &(index, ByRef(ty)))).encode(sink)
 }
 
 impl<A: Allocator> Encode for &SubType<A> {

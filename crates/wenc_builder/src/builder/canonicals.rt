@@ -4,7 +4,7 @@ ghost use Rattle.wenc_builder.specs.Prelude.{Enters, EntersListed, canonical_tre
 use super::ComponentBuilder;
 use super::kind::Kind;
 use std::alloc::Allocator;
-use wenc_base::{Fault, Tagged, ValType};
+use wenc_base::{Fault, Prefix, ValType};
 use wenc_canon::rows::Row;
 use wenc_canon::{AddsBuiltin, AddsRow, AddsSlot, AddsSlotRow, CanonicalOption, Fields};
 use wenc_sections::Space;
@@ -26,7 +26,7 @@ impl<A: Allocator> AddsRow for ComponentBuilder<A> {
             Kind::CanonicalFunction,
             Space::CoreFuncs,
             Some(row.0),
-            &Tagged(row.1, fields),
+            &Prefix(row.1, fields),
         )
     }
 
@@ -40,7 +40,7 @@ impl<A: Allocator> AddsRow for ComponentBuilder<A> {
             Kind::CanonicalFunction,
             Space::CoreFuncs,
             Some(row.0),
-            &Tagged(row.1, fields),
+            &Prefix(row.1, fields),
             options,
             &(),
         )
@@ -59,7 +59,7 @@ impl<A: Allocator + Clone> AddsSlotRow for ComponentBuilder<A> {
             Kind::CanonicalFunction,
             Space::CoreFuncs,
             Some(name.as_str()),
-            &Tagged(row.1, &(ty, slot)),
+            &Prefix(row.1, &(ty, slot)),
         )
     }
 }

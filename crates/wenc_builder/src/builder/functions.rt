@@ -7,7 +7,7 @@ ghost use Rattle.wenc_canon.specs.Prelude.{Lift, Lower};
 use super::ComponentBuilder;
 use super::kind::Kind;
 use std::alloc::Allocator;
-use wenc_base::{Fault, Tagged};
+use wenc_base::{Fault, Prefix, Tagged};
 use wenc_canon::{CanonicalOption, rows};
 use wenc_sections::Space;
 
@@ -27,12 +27,13 @@ impl<A: Allocator> ComponentBuilder<A> {
         ensures { EntersListed I.next_gives options self.old self.new result
             (λ os. canonical_entry (option_copied debug_name.entry) (Lower func_index os)) }
     {
+        // Without options it takes fewer instructions than a second `Prefix`.
         let lead = Tagged(rows::PLAIN, &func_index);
         self.add_listed(
             Kind::CanonicalFunction,
             Space::CoreFuncs,
             debug_name,
-            &Tagged(rows::LOWER.1, &lead),
+            &Prefix(rows::LOWER.1, &lead),
             options,
             &(),
         )
@@ -53,12 +54,13 @@ impl<A: Allocator> ComponentBuilder<A> {
             (λ os. canonical_entry (option_copied debug_name.entry)
             (Lift core_func_index os type_index)) }
     {
+        // Without options it takes fewer instructions than a second `Prefix`.
         let lead = Tagged(rows::PLAIN, &core_func_index);
         self.add_listed(
             Kind::CanonicalFunction,
             Space::Funcs,
             debug_name,
-            &Tagged(rows::LIFT.1, &lead),
+            &Prefix(rows::LIFT.1, &lead),
             options,
             &type_index,
         )

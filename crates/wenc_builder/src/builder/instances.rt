@@ -10,7 +10,7 @@ ghost use Rattle.wenc_sections.specs.Prelude.{Instantiate, Exports, named_triple
 use super::ComponentBuilder;
 use super::kind::Kind;
 use std::alloc::Allocator;
-use wenc_base::{ExportKind, Fault, Named, Tagged};
+use wenc_base::{ExportKind, Fault, Named, Prefix};
 use wenc_parts::{ComponentExportKind, ComponentExternName, ModuleArg};
 use wenc_sections::Space;
 use wenc_sections::instances::{CORE_EXPORTS, CORE_INSTANTIATE, EXPORTS, INSTANTIATE};
@@ -32,7 +32,7 @@ impl<A: Allocator> ComponentBuilder<A> {
             (λ items. core_instance_entry (option_copied debug_name.entry)
             (CoreInstantiate module_index (map (named_pair (λ s. s.now)) items))) }
     {
-        let lead = Tagged(CORE_INSTANTIATE, &module_index);
+        let lead = Prefix(CORE_INSTANTIATE, &module_index);
         self.add_listed(
             Kind::CoreInstance,
             Space::CoreInstances,
@@ -55,7 +55,7 @@ impl<A: Allocator> ComponentBuilder<A> {
             (λ items. core_instance_entry (option_copied debug_name.entry)
             (CoreExports (map (named_triple (λ s. s.now)) items))) }
     {
-        let lead = Tagged(CORE_EXPORTS, &());
+        let lead = Prefix(CORE_EXPORTS, &());
         self.add_listed(
             Kind::CoreInstance,
             Space::CoreInstances,
@@ -80,7 +80,7 @@ impl<A: Allocator> ComponentBuilder<A> {
             (λ items. instance_entry (option_copied debug_name.entry)
             (Instantiate component_index (map (named_triple S.named) items))) }
     {
-        let lead = Tagged(INSTANTIATE, &component_index);
+        let lead = Prefix(INSTANTIATE, &component_index);
         self.add_listed(
             Kind::Instance,
             Space::Instances,
@@ -103,7 +103,7 @@ impl<A: Allocator> ComponentBuilder<A> {
             (λ items. instance_entry (option_copied debug_name.entry)
             (Exports (map (named_triple extern_name_view) items))) }
     {
-        let lead = Tagged(EXPORTS, &());
+        let lead = Prefix(EXPORTS, &());
         self.add_listed(
             Kind::Instance,
             Space::Instances,

@@ -16,7 +16,7 @@ ghost use Rattle.wenc_types.specs.declared.encoders.func_type.FuncStage.TheVaria
 use super::ComponentBuilder;
 use super::kind::Kind;
 use std::alloc::Allocator;
-use wenc_base::{Fault, Tagged, ValType};
+use wenc_base::{Fault, Prefix, ValType};
 use wenc_sections::Space;
 use wenc_types::{
     ComponentCoreTypeEncoder, ComponentDefinedTypeEncoder, ComponentFuncTypeEncoder, ComponentType,
@@ -153,7 +153,7 @@ impl<A: Allocator> ComponentBuilder<A> {
         ensures { Enters self.old self.new result
             (type_entry (option_copied debug_name.entry) (ResourceType rep dtor)) }
     {
-        let resource = Tagged(0x3f, &(rep, dtor));
+        let resource = Prefix(0x3f, &(rep, dtor));
         self.add(Kind::Type, Space::Types, debug_name, &resource)
     }
 }

@@ -10,7 +10,7 @@ ghost use Rattle.wenc_types.specs.Prelude.{case};
 
 use crate::defined_tree::DefinedTree;
 use std::alloc::Allocator;
-use wenc_base::{Encode, Fault, Parent, Tagged};
+use wenc_base::{Encode, Fault, Parent, Prefix};
 use wenc_parts::{ComponentValType, PrimitiveValType};
 
 /// Writes one defined type, a type of values, into its parent (component model, binary format,
@@ -91,8 +91,7 @@ impl<'a, L: Parent> ComponentDefinedTypeEncoder<'a, L> {
             self.entry.parent.now self.exit.0.now result
             (λ cs. def_val_type (Variant (map borrowed_case cs))) }
     {
-        self.parent
-            .end_with_list(&[0x71], cases.map(case_of))
+        self.parent.end_with_list(&[0x71], cases.map(case_of))
     }
 
     /// Defines a list of any length.
@@ -100,7 +99,7 @@ impl<'a, L: Parent> ComponentDefinedTypeEncoder<'a, L> {
         ensures { Ends L.appended L.ended L.refuses self.entry.parent.now self.exit.0.now result
             (def_val_type (ListOf ty)) }
     {
-        self.parent.end_with(&Tagged(0x70, &ty))
+        self.parent.end_with(&Prefix(0x70, &ty))
     }
 
     /// Defines a map from keys to values of these types.
@@ -108,7 +107,7 @@ impl<'a, L: Parent> ComponentDefinedTypeEncoder<'a, L> {
         ensures { Ends L.appended L.ended L.refuses self.entry.parent.now self.exit.0.now result
             (def_val_type (MapOf key value)) }
     {
-        self.parent.end_with(&Tagged(0x63, &(key, value)))
+        self.parent.end_with(&Prefix(0x63, &(key, value)))
     }
 
     /// Defines a list of this length.
@@ -116,7 +115,7 @@ impl<'a, L: Parent> ComponentDefinedTypeEncoder<'a, L> {
         ensures { Ends L.appended L.ended L.refuses self.entry.parent.now self.exit.0.now result
             (def_val_type (FixedLengthList ty length)) }
     {
-        self.parent.end_with(&Tagged(0x67, &(ty, length)))
+        self.parent.end_with(&Prefix(0x67, &(ty, length)))
     }
 
     /// Defines a tuple with elements of these types.
@@ -159,7 +158,7 @@ impl<'a, L: Parent> ComponentDefinedTypeEncoder<'a, L> {
         ensures { Ends L.appended L.ended L.refuses self.entry.parent.now self.exit.0.now result
             (def_val_type (OptionOf ty)) }
     {
-        self.parent.end_with(&Tagged(0x6b, &ty))
+        self.parent.end_with(&Prefix(0x6b, &ty))
     }
 
     /// Defines a `result`: success or failure, each optionally with a payload type.
@@ -171,7 +170,7 @@ impl<'a, L: Parent> ComponentDefinedTypeEncoder<'a, L> {
         ensures { Ends L.appended L.ended L.refuses self.entry.parent.now self.exit.0.now result
             (def_val_type (ResultOf ok err)) }
     {
-        self.parent.end_with(&Tagged(0x6a, &(ok, err)))
+        self.parent.end_with(&Prefix(0x6a, &(ok, err)))
     }
 
     /// Defines an owned handle to a resource, whose type has this index.
@@ -179,7 +178,7 @@ impl<'a, L: Parent> ComponentDefinedTypeEncoder<'a, L> {
         ensures { Ends L.appended L.ended L.refuses self.entry.parent.now self.exit.0.now result
             (def_val_type (Own index)) }
     {
-        self.parent.end_with(&Tagged(0x69, &index))
+        self.parent.end_with(&Prefix(0x69, &index))
     }
 
     /// Defines a borrowed handle to a resource, whose type has this index.
@@ -187,7 +186,7 @@ impl<'a, L: Parent> ComponentDefinedTypeEncoder<'a, L> {
         ensures { Ends L.appended L.ended L.refuses self.entry.parent.now self.exit.0.now result
             (def_val_type (Borrow index)) }
     {
-        self.parent.end_with(&Tagged(0x68, &index))
+        self.parent.end_with(&Prefix(0x68, &index))
     }
 
     /// Defines a future, optionally with a payload type.
@@ -195,7 +194,7 @@ impl<'a, L: Parent> ComponentDefinedTypeEncoder<'a, L> {
         ensures { Ends L.appended L.ended L.refuses self.entry.parent.now self.exit.0.now result
             (def_val_type (Future payload)) }
     {
-        self.parent.end_with(&Tagged(0x65, &payload))
+        self.parent.end_with(&Prefix(0x65, &payload))
     }
 
     /// Defines a stream, optionally with a payload type.
@@ -203,7 +202,7 @@ impl<'a, L: Parent> ComponentDefinedTypeEncoder<'a, L> {
         ensures { Ends L.appended L.ended L.refuses self.entry.parent.now self.exit.0.now result
             (def_val_type (Stream payload)) }
     {
-        self.parent.end_with(&Tagged(0x66, &payload))
+        self.parent.end_with(&Prefix(0x66, &payload))
     }
 }
 
@@ -229,6 +228,6 @@ impl<'a> Encode for Case<'a> {
     /// The last byte says that the case refines no other.
     #[inline(always)]
     fn encode<A: Allocator>(&self, sink: &mut Vec<u8, A>) -> Result<(), Fault> {
-        (self.name, (self.ty, Tagged(0x00, &()))).encode(sink)
+        (self.name, (self.ty, Prefix(0x00, &()))).encode(sink)
     }
 }

@@ -16,7 +16,7 @@ use crate::encoders::func_type::ComponentFuncTypeEncoder;
 use crate::instance_type::InstanceType;
 use crate::type_tree::TypeTree;
 use std::alloc::Allocator;
-use wenc_base::{Fault, Parent, Tagged, ValType};
+use wenc_base::{Fault, Parent, Prefix, ValType};
 
 /// Writes one type into its parent: a holder, or a type, a section or a builder that contains one
 /// (component model, binary format, "Type Definitions").
@@ -134,6 +134,6 @@ impl<'a, L: Parent> ComponentTypeEncoder<'a, L> {
         ensures { Ends L.appended L.ended L.refuses self.entry.parent.now self.exit.0.now result
             (def_type (ResourceType rep dtor)) }
     {
-        self.parent.end_with(&Tagged(0x3f, &(rep, dtor)))
+        self.parent.end_with(&Prefix(0x3f, &(rep, dtor)))
     }
 }

@@ -16,11 +16,11 @@ returns-clause-appended g c =
     let after = c.encode_listed-written.new.sink.items in
     let start : c.len-start.result ≡ length before = search rules in
     let front : take kept after ≡ take kept before = in_both written
-        (on_ok written (came_after steps c.args.values piece kept before after c.self.invariant.0) c.encode_listed-written.ensures.ok)
-        (on_err written (λ more. rw more.1 (take-append-le kept before more.0 c.self.invariant.0)) c.encode_listed-written.ensures.err) in
+    (on_ok written (came_after steps c.args.values piece kept before after c.self.invariant.0) c.encode_listed-written.ensures.ok)
+    (on_err written (λ more. rw more.1 (take-append-le kept before more.0 c.self.invariant.0)) c.encode_listed-written.ensures.err) in
     let cut : take c.len-start.result after ≡ take c.len-start.result before = in_both written
-        (on_ok written (came_after steps c.args.values piece c.len-start.result before after (omega (arith, start))) c.encode_listed-written.ensures.ok)
-        (on_err written (λ more. rw more.1 (take-append-le c.len-start.result before more.0 (omega (arith, start)))) c.encode_listed-written.ensures.err) in
+    (on_ok written (came_after steps c.args.values piece c.len-start.result before after (omega (arith, start))) c.encode_listed-written.ensures.ok)
+    (on_err written (λ more. rw more.1 (take-append-le c.len-start.result before more.0 (omega (arith, start)))) c.encode_listed-written.ensures.err) in
     let same : take c.len-start.result after ≡ before = cut ∙ rw start (take-length before) in
     kept_written steps c.args.values piece c.args.self.now _ (drop kept after) written c.keep_written.result
     (on_ok written (λ ok. rw (← c.self.view_is) (came_behind steps c.args.values piece kept before after c.self.invariant.0 ok))
