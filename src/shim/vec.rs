@@ -43,12 +43,10 @@ pub trait VecUsing<T>: Sized {
 #[cold]
 #[inline(never)]
 fn grow<T>(vec: &mut Vec<T>, more: usize) -> Result<(), AllocError> {
-    let mut room = more.saturating_add(1);
-    if const { size_of::<T>() == 1 } && vec.capacity() < FIRST_BYTES {
-        room = room.max(FIRST_BYTES - vec.len());
-    }
-    let is_refused = ask().is_err() || vec.try_reserve(room).is_err();
-    if is_refused { Err(AllocError) } else { Ok(()) }
+    let first = const { if size_of::<T>() == 1 { FIRST_BYTES } else { 0 } };
+    let room = more.saturating_add(1).max(first.saturating_sub(vec.len()));
+    ask()?;
+    vec.try_reserve(room).or(Err(AllocError))
 }
 
 /// Appends an element for which there is no room. Apart from `push_using`, so that std's is
