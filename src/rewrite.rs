@@ -12,6 +12,8 @@ use crate::{Error, tree::ItemTree};
 pub use items::ItemSection;
 
 #[cfg(feature = "tree")]
+mod item;
+#[cfg(feature = "tree")]
 mod items;
 
 // The bytes after the id, which is one byte.

@@ -1,11 +1,11 @@
 //! Writing sections item by item.
 
 use super::SectionItem;
+use super::item::Item;
 use crate::component::{ComponentSection, ComponentSectionId};
 use crate::encode::{Encode, append, encode_or_panic};
 use crate::error::{Error, or_panic};
 use crate::list::ListedSection;
-use crate::proved::wasm_encoder as proved;
 use crate::proved::wenc_base::{Encode as _, Fault, Holder, Verbatim};
 use crate::shim::alloc::Global;
 use crate::tree::ItemTree;
@@ -115,38 +115,7 @@ impl ItemSection {
             return Err(Error::WrongSection);
         }
         self.has_room()?;
-        let items = &mut self.items;
-        match item {
-            ItemTree::Module(bytes) | ItemTree::Component(bytes) => {
-                items.add_encoded(&bytes.as_slice())
-            }
-            ItemTree::CoreInstance(tree) => items.add_encoded(tree),
-            ItemTree::CoreType(tree) => items.add_encoded(&**tree),
-            ItemTree::Instance(tree) => items.add_encoded(tree),
-            ItemTree::Alias(tree) => items.add_encoded(&tree.as_alias()),
-            ItemTree::Type(tree) => items.add_encoded(tree),
-            ItemTree::Canon(tree) => items.add_encoded(tree),
-            ItemTree::Start { function, args, results } => {
-                let (function_index, results) = (*function, *results);
-                let args = args.as_slice();
-                let start = proved::ComponentStartSection { function_index, args, results };
-                items.add_encoded(&start)
-            }
-            ItemTree::Import { name, ty } => {
-                let mut imports = proved::ComponentImportSection::new(Global);
-                imports.import(name.as_name(), *ty)?;
-                items.add(imports.into_holder().as_slice())
-            }
-            ItemTree::Export { name, kind, index, ty } => {
-                let mut exports = proved::ComponentExportSection::new(Global);
-                exports.export(name.as_name(), *kind, *index, *ty)?;
-                items.add(exports.into_holder().as_slice())
-            }
-            ItemTree::Custom { name, data } => {
-                items.add_encoded(&proved::CustomSection { name, data })
-            }
-        }?;
-        Ok(())
+        Ok(self.items.add_encoded(&Item(item))?)
     }
 
     /// Adds an item given as bytes, such as those of a component in the range that
