@@ -66,7 +66,7 @@ const UNKNOWN: u64 = u64::MAX;
 /// Needs the feature `walk`.
 ///
 /// On a 64-bit machine each item, each declaration of a type, and each export or argument in the
-/// list of an instance takes at most 296 bytes of memory, and a scope that isn't at its end 328
+/// list of an instance takes at most 296 bytes of memory, and a scope that isn't at its end 320
 /// more; a list that grows takes up to twice as much. Each byte is read once, and once more for
 /// each type around it. What a definition is the same as is found when it is read, so that
 /// [`resolve`](Definition::resolve) follows any number of exports and aliases in the time of one.
@@ -131,7 +131,7 @@ struct Frame {
 #[cfg(target_pointer_width = "64")]
 const _: () = {
     assert!(size_of::<(Entry, Frame, (&str, u32), (u32, ScopeFault))>() <= 296);
-    assert!(size_of::<build::Open>() <= 328);
+    assert!(size_of::<build::Open>() <= 320);
 };
 
 impl Frame {

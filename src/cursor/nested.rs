@@ -49,7 +49,8 @@ pub struct NestedSections<'a> {
 
 impl<'a> NestedSections<'a> {
     pub(super) fn new(sections: Sections<'a>, limit: usize) -> Self {
-        Self { innermost: sections, around: Ends::default(), limit, last: None }
+        let around = Ends { len: 0, few: [0; FEW], more: Vec::new() };
+        Self { innermost: sections, around, limit, last: None }
     }
 
     /// Enters the component that the section contains.
@@ -120,7 +121,7 @@ impl FusedIterator for NestedSections<'_> {}
 const FEW: usize = 8;
 
 /// A stack of byte offsets.
-#[derive(Clone, Debug, Default)]
+#[derive(Clone, Debug)]
 struct Ends {
     len: usize,
     few: [usize; FEW],

@@ -6,7 +6,6 @@ use crate::ListFault;
 use crate::shim::vec::VecUsing;
 use crate::tree::{IndexCounts, Scope, Scopes, Space, UsedIndex};
 use crate::view::ItemView;
-use alloc::collections::VecDeque;
 use alloc::vec::Vec;
 
 /// An index that its space doesn't have before the item that contains it, as
@@ -33,13 +32,13 @@ pub(super) struct Finder<'a> {
     steps: Steps<'a>,
     /// The index counts of the components around the next item, the outermost first.
     counts: Vec<IndexCounts>,
-    /// The indices that were found in the last item.
-    found: VecDeque<OutOfRange>,
+    /// The indices that were found in the last item, the first of them last.
+    found: Vec<OutOfRange>,
 }
 
 impl<'a> Finder<'a> {
     pub(super) fn new(sections: NestedSections<'a>) -> Self {
-        Self { steps: Steps::new(sections), counts: Vec::new(), found: VecDeque::new() }
+        Self { steps: Steps::new(sections), counts: Vec::new(), found: Vec::new() }
     }
 
     fn enter(&mut self) -> Result<(), ListFault> {
@@ -57,10 +56,10 @@ impl<'a> Finder<'a> {
         let scopes = Scopes::new(&self.counts);
         item.node_in(&scopes).try_each_index(|UsedIndex { space, scope, index, count }| {
             let Some(count) = count else { return Ok(()) };
-            self.found.try_reserve(1).map_err(|_| ListFault::NoMemory)?;
-            self.found.push_back(OutOfRange { place, space, scope, index, count });
-            Ok(())
+            let found = OutOfRange { place, space, scope, index, count };
+            self.found.push_using(found).map_err(|_| ListFault::NoMemory)
         })?;
+        self.found.reverse();
         self.define(item);
         Ok(())
     }
@@ -68,7 +67,7 @@ impl<'a> Finder<'a> {
     /// Returns the next index that is out of range.
     pub(super) fn find(&mut self) -> Result<Option<OutOfRange>, ListFault> {
         loop {
-            if let Some(found) = self.found.pop_front() {
+            if let Some(found) = self.found.pop() {
                 return Ok(Some(found));
             }
             let Some(step) = self.steps.next()? else { return Ok(None) };

@@ -7,6 +7,7 @@ use crate::shim::vec::VecUsing;
 use crate::tree::{IndexCounts, Space};
 use crate::view::{CoreInstanceView, InstanceView, ItemView};
 use crate::{ListFault, Sections};
+use alloc::collections::BinaryHeap;
 use alloc::vec::Vec;
 use core::mem;
 
@@ -70,8 +71,8 @@ pub(super) struct Reader<'a> {
     pub all: Definitions<'a>,
     /// The scopes around the next definition, the outermost first.
     pub open: Vec<Open<'a>>,
-    /// The exports of these.
-    names: Vec<(&'a str, u32)>,
+    /// The exports of these, each with the number of its scope: the innermost's are the greatest.
+    names: BinaryHeap<(u32, &'a str, u32)>,
     /// The declarations that are left of the types around the next one.
     types: Vec<Declarations<'a>>,
 }
@@ -85,8 +86,6 @@ pub(super) struct Open<'a> {
     pub counts: IndexCounts,
     /// Its counts if all canonical functions that can't be read are core functions.
     pub assumed: Option<IndexCounts>,
-    /// The number of exports in the scopes around it.
-    names: usize,
     /// Whether it is a list in an instance, whose indices belong to the scope around it.
     is_list: bool,
 }
@@ -104,7 +103,7 @@ impl<'a> Reader<'a> {
     fn new() -> Self {
         let (entries, frames, names, faults) = Default::default();
         let all = Definitions { entries, frames, names, faults };
-        Self { all, open: Vec::new(), names: Vec::new(), types: Vec::new() }
+        Self { all, open: Vec::new(), names: BinaryHeap::new(), types: Vec::new() }
     }
 
     /// Reads a component, and passes on its faults, unless it is none or there is no memory.
@@ -139,22 +138,29 @@ impl<'a> Reader<'a> {
         let (scope, start) = (numbered(self.all.frames.len())?, numbered(self.all.entries.len())?);
         let outer = self.open.last().map_or(NONE, |open| open.scope);
         push(&mut self.all.frames, Frame { place, outer, start, ..Frame::EMPTY })?;
-        let (counts, names) = (IndexCounts::default(), self.names.len());
+        let counts = IndexCounts::default();
         let is_list = matches!(opener.space(), Some(Space::Instances | Space::CoreInstances));
         let (opener, assumed) = ((place, opener), None);
-        push(&mut self.open, Open { scope, opener, counts, assumed, names, is_list })
+        push(&mut self.open, Open { scope, opener, counts, assumed, is_list })
     }
 
     /// Ends the innermost scope. Returns it.
     fn leave(&mut self) -> Result<Option<Open<'a>>, ListFault> {
         let Some(open) = self.open.pop() else { return Ok(None) };
-        let names = &mut self.names[open.names..];
-        names.sort_unstable();
-        let from = numbered(self.all.names.len())?;
-        self.all.names.extend_from_slice_using(names).map_err(|_| ListFault::NoMemory)?;
-        self.all.frames[open.scope as usize].names = (from, numbered(self.all.names.len())?);
-        self.names.truncate(open.names);
+        let from = self.all.names.len();
+        while let Some((_, name, number)) = self.pop_name(open.scope) {
+            push(&mut self.all.names, (name, number))?;
+        }
+        self.all.names[from..].reverse();
+        let names = (numbered(from)?, numbered(self.all.names.len())?);
+        self.all.frames[open.scope as usize].names = names;
         Ok(Some(open))
+    }
+
+    /// Takes the greatest of the names of this scope, which is the innermost.
+    fn pop_name(&mut self, scope: u32) -> Option<(u32, &'a str, u32)> {
+        self.names.peek().filter(|(of, ..)| *of == scope)?;
+        self.names.pop()
     }
 
     /// Ends the innermost scope, and defines it in the one around it.
@@ -289,10 +295,11 @@ impl<'a> Reader<'a> {
 
     /// Adds an entry to the innermost scope, and to its exports if it has a name.
     fn link(&mut self, number: u32, name: Option<&'a str>) -> Result<(), ListFault> {
-        if let Some(name) = name {
-            push(&mut self.names, (name, number))?;
-        }
         let Some(open) = self.open.last() else { return Ok(()) };
+        if let Some(name) = name {
+            self.names.try_reserve(1).map_err(|_| ListFault::NoMemory)?;
+            self.names.push((open.scope, name, number));
+        }
         let (first, last) = &mut self.all.frames[open.scope as usize].ends;
         if *first == NONE {
             *first = number;

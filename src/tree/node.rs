@@ -393,7 +393,7 @@ impl<'a> Fields<'a> {
 
     /// Returns the names and the values, in the order of the Rust type.
     pub fn iter(self) -> impl FusedIterator<Item = (&'static str, Child<'a>)> {
-        (0..).map_while(move |at| self.get(at)).fuse()
+        Numbered { fields: self, at: 0 }
     }
 
     /// Returns the field with this number. It isn't inlined, so that the stack of a caller that
@@ -411,14 +411,37 @@ impl<'a> Fields<'a> {
     /// Visits each index in the values, in the order in which they are encoded.
     #[inline(never)]
     fn each_use(self, visit: &mut dyn FnMut(UsedIndex) -> ControlFlow<()>) -> ControlFlow<()> {
-        for is_last in [false, true] {
-            for (_, child) in self.iter().filter(|(_, child)| child.place.is_last == is_last) {
+        for (_, child) in self.iter() {
+            if !child.place.is_last {
+                child.node().each_use(visit)?;
+            }
+        }
+        for (_, child) in self.iter() {
+            if child.place.is_last {
                 child.node().each_use(visit)?;
             }
         }
         ControlFlow::Continue(())
     }
 }
+
+/// The fields of a value from one of them on.
+struct Numbered<'a> {
+    fields: Fields<'a>,
+    at: usize,
+}
+
+impl<'a> Iterator for Numbered<'a> {
+    type Item = (&'static str, Child<'a>);
+
+    fn next(&mut self) -> Option<Self::Item> {
+        let field = self.fields.get(self.at)?;
+        self.at += 1;
+        Some(field)
+    }
+}
+
+impl FusedIterator for Numbered<'_> {}
 
 impl fmt::Debug for Fields<'_> {
     fn fmt(&self, f: &mut fmt::Formatter<'_>) -> fmt::Result {

@@ -96,7 +96,7 @@ fn imports(count: usize) -> Vec<u8> {
 fn defined(component: &[u8], count: usize) -> Definitions<'_> {
     let (read, requested) = requested(|| Definitions::new(component, usize::MAX));
     // lists that double, each of a part of what the documentation states
-    assert!(requested <= 4 * (296 + 328) * count, "{requested}");
+    assert!(requested <= 4 * (296 + 320) * count, "{requested}");
     read.expect("it is read")
 }
 
@@ -145,7 +145,7 @@ fn many_sections_that_are_not_read() {
     let mut faults = 0;
     let (definitions, requested) =
         requested(|| Definitions::past_faults(&component, 0, |_| faults += 1));
-    assert!(requested <= 4 * (296 + 328) * 3 * COUNT, "{requested}");
+    assert!(requested <= 4 * (296 + 320) * 3 * COUNT, "{requested}");
     let scope = definitions.component();
     assert_eq!((faults, scope.count(Space::CoreFuncs)), (COUNT, COUNT as u64));
     let exports = (0..COUNT as u32).map(|index| scope.get(Space::Funcs, index).expect("an export"));
