@@ -19,7 +19,16 @@ impl Trees<'_> {
     /// Does what `next` does, which is compiled into its callers, out of line.
     pub(crate) fn next_apart(&mut self) -> Option<<Self as Iterator>::Item> {
         let item = self.0.next_apart()?;
-        Some(item.and_then(|item| self.owned(item)))
+        Some(item.and_then(|(range, item)| match item.try_to_tree() {
+            Ok(tree) => Ok((range, tree)),
+            Err(_) => Err(self.refused()),
+        }))
+    }
+
+    /// Returns the fault, after which there are no items.
+    fn refused(&mut self) -> ListFault {
+        self.0.left = None;
+        ListFault::NoMemory
     }
 
     /// Copies an item.
@@ -29,10 +38,7 @@ impl Trees<'_> {
         (range, item): (Range<usize>, ItemView<'_>),
     ) -> Result<(Range<usize>, ItemTree), ListFault> {
         let tree = ItemTree::tree_of(Global, item).map(|tree| (range, tree));
-        tree.map_err(|_| {
-            self.0.left = None;
-            ListFault::NoMemory
-        })
+        tree.map_err(|_| self.refused())
     }
 }
 
