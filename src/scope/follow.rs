@@ -24,7 +24,8 @@ impl Definitions<'_> {
         let (from, to) = self.frame(scope).names;
         let names = &self.names[from as usize..to as usize];
         let names = &names[names.partition_point(|(other, _)| *other < name)..];
-        &names[..names.iter().take_while(|(other, _)| *other == name).count()]
+        let end = names.iter().position(|(other, _)| *other != name);
+        &names[..end.unwrap_or(names.len())]
     }
 
     /// Returns the last entry that the one of an index is the same as, seen from this entry.
@@ -95,17 +96,18 @@ impl Definitions<'_> {
             Some(Same::Export((space, index), name, of)) => (found(0, space, index)?, name, of),
         };
         let Some(scope) = self.exports_of(self.last_of(of)?)? else { return Ok(None) };
-        let named = self.exports_named(scope, name);
-        let spaces = || named.iter().filter_map(|(_, number)| self.entry(*number).space);
-        match spaces().position(|found| found == space) {
-            Some(at) => Ok(Some(named[at].1)),
-            None => Err(match (spaces().next(), self.frame(scope).unread) {
-                (Some(found), _) => ScopeFault::OtherExport { place, space, found },
-                (None, NONE) => ScopeFault::NoExport { place, space },
-                (None, number) => {
-                    ScopeFault::Unread { place, space, unread: self.entry(number).place }
-                }
-            }),
+        let mut other = None;
+        for &(_, number) in self.exports_named(scope, name) {
+            let found = self.entry(number).space;
+            if found == Some(space) {
+                return Ok(Some(number));
+            }
+            other = other.or(found);
         }
+        Err(match (other, self.frame(scope).unread) {
+            (Some(found), _) => ScopeFault::OtherExport { place, space, found },
+            (None, NONE) => ScopeFault::NoExport { place, space },
+            (None, number) => ScopeFault::Unread { place, space, unread: self.entry(number).place },
+        })
     }
 }

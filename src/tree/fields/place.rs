@@ -105,8 +105,9 @@ impl<'s> Scopes<'s> {
                     innermost = around;
                 }
                 Around::Components(all) => {
-                    let out = usize::try_from(count).ok();
-                    let component = out.and_then(|out| all.iter().rev().nth(out));
+                    let around =
+                        usize::try_from(count).ok().and_then(|out| all.len().checked_sub(out));
+                    let component = around.and_then(|around| all[..around].last());
                     return component.map_or(0, |counts| counts.of(space));
                 }
             }
