@@ -60,24 +60,21 @@ pub(super) type Visit<'v> = dyn FnMut(&dyn Tree, Option<&[u8]>) -> ControlFlow<(
 
 /// A value that is an item or within one, owned or borrowed.
 pub(super) trait Tree: Sync {
-    /// Sets the values of the fields, and returns their shape; or the node of a value at this place
-    /// that has no shape.
-    fn shape<'n>(&'n self, place: Place<'n>, values: &mut Refs<'n>) -> Shaped<'n>;
+    /// Sets the values of the fields, and returns their shape; or sets the node of a value at this
+    /// place that has no shape.
+    fn shape<'n>(&'n self, place: Place<'n>, values: &mut Refs<'n>) -> Option<&'static Shape>;
 }
 
-/// The values of the fields of a borrowed or owned value.
-pub(super) type Refs<'n> = Values<&'n dyn Tree>;
-
-/// The shape of a value, or its node.
-pub(super) type Shaped<'n> = Result<&'static Shape, Node<'n>>;
+/// The values of the fields of a borrowed or owned value, or its node.
+pub(super) type Refs<'n> = Values<&'n dyn Tree, Node<'n>>;
 
 /// Returns the value at this place as a node.
 #[inline(never)]
 pub(super) fn node_of<'n>(tree: &'n dyn Tree, place: Place<'n>) -> Node<'n> {
     let mut values = Values::new();
     match tree.shape(place, &mut values) {
-        Ok(shape) => shape.node(&mut values, tree, place),
-        Err(node) => node,
+        Some(shape) => shape.node(&mut values, tree, place),
+        None => values.unshaped.unwrap_or(Node::Absent),
     }
 }
 
@@ -86,8 +83,8 @@ pub(super) fn node_of<'n>(tree: &'n dyn Tree, place: Place<'n>) -> Node<'n> {
 pub(super) fn fields_of<'n>(tree: &'n dyn Tree, place: Place<'n>) -> Named<'n> {
     let mut values = Values::new();
     match tree.shape(place, &mut values) {
-        Ok(shape) => shape.named(&mut values, place),
-        Err(_) => [None; 4],
+        Some(shape) => shape.named(&mut values, place),
+        None => [None; 4],
     }
 }
 
@@ -95,7 +92,7 @@ pub(super) fn fields_of<'n>(tree: &'n dyn Tree, place: Place<'n>) -> Named<'n> {
 #[inline(never)]
 pub(super) fn defined(declaration: &dyn Tree) -> Option<(Space, u32)> {
     let mut values = Values::new();
-    declaration.shape(Place::default(), &mut values).ok()?;
+    declaration.shape(Place::default(), &mut values)?;
     values.defined
 }
 
@@ -114,7 +111,17 @@ pub(super) trait Part: Sync {
     fn part_fields<'n>(&'n self, place: Place<'n>) -> Named<'n>;
 }
 
-/// The elements of a list.
+/// The elements of an owned list.
+#[cfg(feature = "tree")]
+pub(super) trait OwnedElements: Sync {
+    /// Returns the number of them.
+    fn len(&self) -> usize;
+
+    /// Returns the one with this number.
+    fn at(&self, number: usize) -> &dyn Tree;
+}
+
+/// The elements of a borrowed list.
 pub(super) trait Elements: Sync {
     /// Returns the number of them.
     fn len(&self) -> usize;
@@ -173,8 +180,8 @@ macro_rules! tree_by {
     ($shape:ident $fields:tt [$($generics:tt)*] $ty:ty) => {
         impl $($generics)* Tree for $ty {
             #[allow(unused_variables, reason = "not all variants have fields")]
-            fn shape<'n>(&'n self, _: Place<'n>, values: &mut Refs<'n>) -> Shaped<'n> {
-                Ok($shape!(self values $fields))
+            fn shape<'n>(&'n self, _: Place<'n>, values: &mut Refs<'n>) -> Option<&'static Shape> {
+                Some($shape!(self values $fields))
             }
         }
     };

@@ -1,5 +1,7 @@
 //! Items as nodes with named fields.
 
+#[cfg(feature = "tree")]
+use super::fields::OwnedElements;
 use super::fields::{
     Elements, IndexCounts, Part, Place, Scopes, Tree, Visit, Whole, defined, fields_of, node_of,
 };
@@ -268,6 +270,8 @@ pub struct List<'a> {
 #[derive(Clone, Copy)]
 enum Listed<'a> {
     Elements(&'a dyn Elements),
+    #[cfg(feature = "tree")]
+    Owned(&'a dyn OwnedElements),
     /// The parameters or the results of a core function type.
     #[cfg(feature = "tree")]
     Types(&'a [ValType]),
@@ -276,6 +280,11 @@ enum Listed<'a> {
 impl<'a> List<'a> {
     pub(super) fn new(list: &'a dyn Elements, place: Place<'a>) -> Self {
         Self { listed: Listed::Elements(list), place }
+    }
+
+    #[cfg(feature = "tree")]
+    pub(super) fn owned(list: &'a dyn OwnedElements, place: Place<'a>) -> Self {
+        Self { listed: Listed::Owned(list), place }
     }
 
     /// Returns `true` if there are no elements. Nothing is read.
@@ -287,6 +296,8 @@ impl<'a> List<'a> {
     pub fn len(self) -> usize {
         match self.listed {
             Listed::Elements(list) => list.len(),
+            #[cfg(feature = "tree")]
+            Listed::Owned(list) => list.len(),
             #[cfg(feature = "tree")]
             Listed::Types(types) => types.len(),
         }
@@ -347,7 +358,19 @@ impl<'a> List<'a> {
         match self.listed {
             Listed::Elements(list) => list.each(visit),
             #[cfg(feature = "tree")]
-            Listed::Types(types) => types.iter().try_for_each(|ty| visit(ty, None)),
+            Listed::Owned(list) => {
+                for number in 0..list.len() {
+                    visit(list.at(number), None)?;
+                }
+                ControlFlow::Continue(())
+            }
+            #[cfg(feature = "tree")]
+            Listed::Types(types) => {
+                for ty in types {
+                    visit(ty, None)?;
+                }
+                ControlFlow::Continue(())
+            }
         }
     }
 }

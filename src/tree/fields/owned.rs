@@ -2,7 +2,7 @@
 
 use super::shape::{Kind, Role, Shape, Values};
 use super::values::leaves;
-use super::{Elements, Named, Node, Place, Refs, Shaped, Tree, Visit, Whole, named};
+use super::{Named, Node, OwnedElements, Place, Refs, Tree, Whole, named};
 use crate::shim::vec::VecUsing;
 use crate::tree::indices::{IndexUse, Visitor};
 use crate::tree::node::{Child, Fields, List};
@@ -12,22 +12,24 @@ use crate::tree::{
 };
 use alloc::string::String;
 use alloc::vec::Vec;
-use core::ops::ControlFlow;
 
 /// An owned value, whose indices may be changed.
 pub(in crate::tree) trait TreeMut: Tree {
-    /// Sets the values of the fields, and returns the shape. A value without a shape, but with
-    /// indices, is set itself.
+    /// Sets the values of the fields, and returns the shape; or sets what may have indices without
+    /// one.
     fn shape_mut<'n>(&'n mut self, _: &mut Muts<'n>) -> Option<&'static Shape> {
         None
     }
-
-    /// Visits the indices in the value at this place, which has no shape.
-    fn visit(&mut self, _: Place<'_>, _: &mut Visitor<'_>) {}
 }
 
-/// The values of the fields of an owned value.
-pub(super) type Muts<'n> = Values<&'n mut dyn TreeMut>;
+/// The values of the fields of an owned value, or itself if it may have indices, but no shape.
+pub(super) type Muts<'n> = Values<&'n mut dyn TreeMut, &'n mut dyn Unshaped>;
+
+/// A value without a shape that may have indices.
+pub(in crate::tree) trait Unshaped {
+    /// Visits the indices in the value at this place.
+    fn visit(&mut self, place: Place<'_>, visitor: &mut Visitor<'_>);
+}
 
 /// Visits each index in the value at this place, in the order in which they are encoded. It calls
 /// itself for lists, and for all but one of the fields, so that nested types take little stack.
@@ -39,7 +41,7 @@ pub(in crate::tree) fn each_index(
     loop {
         let mut values = Values::new();
         let Some(shape) = tree.shape_mut(&mut values) else {
-            return values.take(0).map_or((), |tree| tree.visit(place, visitor));
+            return values.unshaped.map_or((), |value| value.visit(place, visitor));
         };
         // the field that is visited after the others
         let mut left: Option<(&mut dyn TreeMut, Place<'_>)> = None;
@@ -72,12 +74,7 @@ impl TreeMut for u64 {}
 impl TreeMut for String {}
 impl TreeMut for Vec<u8> {}
 
-impl TreeMut for u32 {
-    fn shape_mut<'n>(&'n mut self, values: &mut Muts<'n>) -> Option<&'static Shape> {
-        values.one(&INNER, self);
-        None
-    }
-
+impl Unshaped for u32 {
     fn visit(&mut self, place: Place<'_>, visitor: &mut Visitor<'_>) {
         if let Some((space, scope)) = place.index_of() {
             (visitor.visit)(IndexUse { space, scope, index: self });
@@ -85,39 +82,41 @@ impl TreeMut for u32 {
     }
 }
 
-impl<T: Tree> Tree for Vec<T> {
-    fn shape<'n>(&'n self, place: Place<'n>, _: &mut Refs<'n>) -> Shaped<'n> {
-        Err(Node::List(List::new(self, place)))
+impl TreeMut for u32 {
+    fn shape_mut<'n>(&'n mut self, values: &mut Muts<'n>) -> Option<&'static Shape> {
+        values.without_shape(self)
     }
 }
 
-impl<T: Tree> Elements for Vec<T> {
+impl<T: Tree> Tree for Vec<T> {
+    fn shape<'n>(&'n self, place: Place<'n>, values: &mut Refs<'n>) -> Option<&'static Shape> {
+        values.without_shape(Node::List(List::owned(self, place)))
+    }
+}
+
+impl<T: Tree> OwnedElements for Vec<T> {
     fn len(&self) -> usize {
         self.as_slice().len()
     }
 
-    fn each(&self, visit: &mut Visit<'_>) -> ControlFlow<()> {
-        let mut rest = self.as_slice();
-        while let [value, more @ ..] = rest {
-            visit(value, None)?;
-            rest = more;
-        }
-        ControlFlow::Continue(())
+    fn at(&self, number: usize) -> &dyn Tree {
+        &self[number]
     }
 }
 
-impl<T: TreeMut> TreeMut for Vec<T> {
-    fn shape_mut<'n>(&'n mut self, values: &mut Muts<'n>) -> Option<&'static Shape> {
-        values.one(&INNER, self);
-        None
-    }
-
+impl<T: TreeMut> Unshaped for Vec<T> {
     fn visit(&mut self, place: Place<'_>, visitor: &mut Visitor<'_>) {
         let mut rest = self.as_mut_slice();
         while let [value, more @ ..] = rest {
             each_index(value, place, visitor);
             rest = more;
         }
+    }
+}
+
+impl<T: TreeMut> TreeMut for Vec<T> {
+    fn shape_mut<'n>(&'n mut self, values: &mut Muts<'n>) -> Option<&'static Shape> {
+        values.without_shape(self)
     }
 }
 
@@ -132,7 +131,7 @@ impl<T: TreeMut> TreeMut for Option<T> {
 }
 
 impl<T: Tree> Tree for Box<T> {
-    fn shape<'n>(&'n self, place: Place<'n>, values: &mut Refs<'n>) -> Shaped<'n> {
+    fn shape<'n>(&'n self, place: Place<'n>, values: &mut Refs<'n>) -> Option<&'static Shape> {
         (**self).shape(place, values)
     }
 }
@@ -164,8 +163,8 @@ impl TreeMut for CoreArrayType {
 }
 
 impl Tree for CoreFuncType {
-    fn shape<'n>(&'n self, place: Place<'n>, _: &mut Refs<'n>) -> Shaped<'n> {
-        Err(Node::Record("CoreFuncType", Fields::whole(self, place)))
+    fn shape<'n>(&'n self, place: Place<'n>, values: &mut Refs<'n>) -> Option<&'static Shape> {
+        values.without_shape(Node::Record("CoreFuncType", Fields::whole(self, place)))
     }
 }
 
@@ -178,15 +177,9 @@ impl Whole for CoreFuncType {
     }
 }
 
-impl TreeMut for CoreFuncType {
-    fn shape_mut<'n>(&'n mut self, values: &mut Muts<'n>) -> Option<&'static Shape> {
-        values.one(&INNER, self);
-        None
-    }
-
+impl Unshaped for CoreFuncType {
     fn visit(&mut self, place: Place<'_>, visitor: &mut Visitor<'_>) {
-        let types = self.params().iter().chain(self.results());
-        if !types.into_iter().any(has_index) {
+        if !self.params().iter().any(has_index) && !self.results().iter().any(has_index) {
             return;
         }
         // the lists can't be changed in place
@@ -198,6 +191,12 @@ impl TreeMut for CoreFuncType {
         params.visit(place, visitor);
         results.visit(place, visitor);
         *self = Self::from_lists(params, results);
+    }
+}
+
+impl TreeMut for CoreFuncType {
+    fn shape_mut<'n>(&'n mut self, values: &mut Muts<'n>) -> Option<&'static Shape> {
+        values.without_shape(self)
     }
 }
 

@@ -59,9 +59,12 @@ pub(in crate::tree) struct Shape {
     pub(super) fields: &'static [(&'static str, Role)],
 }
 
-/// The values of a variant or a struct, each a reference.
-pub(in crate::tree) struct Values<V> {
+/// The values of a variant or a struct, each a reference; or what a value without a shape has
+/// instead.
+pub(in crate::tree) struct Values<V, L> {
     values: [Option<V>; 4],
+    /// What a value without a shape has.
+    pub(super) unshaped: Option<L>,
     /// How far out the scope is of the index whose role is [`Role::Outer`], and its space.
     pub(super) outer: (u32, Space),
     /// The space and the number of the indices that it defines, if it is a declaration.
@@ -69,10 +72,18 @@ pub(in crate::tree) struct Values<V> {
 }
 
 /// Its methods are called once for each variant, and compiled once.
-impl<V> Values<V> {
+impl<V, L> Values<V, L> {
     #[inline(never)]
     pub(super) fn new() -> Self {
-        Self { values: [None, None, None, None], outer: (0, Space::Types), defined: None }
+        let (values, unshaped) = ([None, None, None, None], None);
+        Self { values, unshaped, outer: (0, Space::Types), defined: None }
+    }
+
+    /// Sets what a value without a shape has.
+    #[inline(never)]
+    pub(super) fn without_shape(&mut self, unshaped: L) -> Option<&'static Shape> {
+        self.unshaped = Some(unshaped);
+        None
     }
 
     #[inline(never)]

@@ -1,7 +1,7 @@
 //! The fields of containers, and of borrowed types whose fields aren't those of the owned ones.
 
 use super::shape::{Kind, Role, Shape};
-use super::{Elements, Named, Node, Part, Place, Refs, Shaped, Tree, Visit, Whole, named, node_of};
+use super::{Elements, Named, Node, Part, Place, Refs, Tree, Visit, Whole, named, node_of};
 use crate::proved::wenc_view::View;
 use crate::tree::node::{Child, Fields, List};
 use crate::tree::{CoreArrayType, Space};
@@ -12,9 +12,9 @@ use core::ops::ControlFlow;
 macro_rules! leaves {
     ($($ty:ty, $value:ident, $place:tt => $node:expr;)+) => {$(
         impl Tree for $ty {
-            fn shape<'n>(&'n self, $place: Place<'n>, _: &mut Refs<'n>) -> Shaped<'n> {
+            fn shape<'n>(&'n self, $place: Place<'n>, values: &mut Refs<'n>) -> Option<&'static Shape> {
                 let $value = self;
-                Err($node)
+                values.without_shape($node)
             }
         }
     )+};
@@ -38,8 +38,8 @@ leaves! {
 macro_rules! lists {
     ($($name:ident $(<$element:ident>)?)+) => {$(
         impl<'a $(, $element: View<'a> + Tree)?> Tree for $name<'a $(, $element)?> {
-            fn shape<'n>(&'n self, place: Place<'n>, _: &mut Refs<'n>) -> Shaped<'n> {
-                Err(Node::List(List::new(self, place)))
+            fn shape<'n>(&'n self, place: Place<'n>, values: &mut Refs<'n>) -> Option<&'static Shape> {
+                values.without_shape(Node::List(List::new(self, place)))
             }
         }
 
@@ -74,23 +74,23 @@ lists! {
 }
 
 impl<T: Tree> Tree for Option<T> {
-    fn shape<'n>(&'n self, _: Place<'n>, values: &mut Refs<'n>) -> Shaped<'n> {
+    fn shape<'n>(&'n self, _: Place<'n>, values: &mut Refs<'n>) -> Option<&'static Shape> {
         static PRESENT: Shape = Shape::new(Kind::Present, "", &[("0", Role::Plain)]);
-        self.as_ref().map(|value| values.one(&PRESENT, value)).ok_or(Node::Absent)
+        Some(values.one(&PRESENT, self.as_ref()?))
     }
 }
 
 /// A name and the named value.
 impl<N: Tree, T: Tree> Tree for (N, T) {
-    fn shape<'n>(&'n self, _: Place<'n>, values: &mut Refs<'n>) -> Shaped<'n> {
+    fn shape<'n>(&'n self, _: Place<'n>, values: &mut Refs<'n>) -> Option<&'static Shape> {
         static PAIR: Shape = Shape::new(Kind::Tuple, "", &[("0", Role::Plain), ("1", Role::Plain)]);
-        Ok(values.two(&PAIR, &self.0, &self.1))
+        Some(values.two(&PAIR, &self.0, &self.1))
     }
 }
 
 /// A name, and the kind and the index of the named item.
 impl<N: Tree, K: Tree + Copy + Into<Space>> Tree for (N, K, u32) {
-    fn shape<'n>(&'n self, _: Place<'n>, values: &mut Refs<'n>) -> Shaped<'n> {
+    fn shape<'n>(&'n self, _: Place<'n>, values: &mut Refs<'n>) -> Option<&'static Shape> {
         static ITEM: Shape = Shape::new(
             Kind::Tuple,
             "",
@@ -98,7 +98,7 @@ impl<N: Tree, K: Tree + Copy + Into<Space>> Tree for (N, K, u32) {
         );
         let (name, kind, index) = self;
         values.outer = (0, (*kind).into());
-        Ok(values.three(&ITEM, name, kind, index))
+        Some(values.three(&ITEM, name, kind, index))
     }
 }
 
@@ -161,7 +161,7 @@ impl Part for CoreCompositeView<'_> {
 }
 
 impl Tree for CoreArrayType {
-    fn shape<'n>(&'n self, place: Place<'n>, values: &mut Refs<'n>) -> Shaped<'n> {
+    fn shape<'n>(&'n self, place: Place<'n>, values: &mut Refs<'n>) -> Option<&'static Shape> {
         self.0.shape(place, values)
     }
 }
