@@ -77,7 +77,6 @@ impl<'a> View<'a> for (&'a str, ModuleArg) {
 
     ghost reading = { read_by (pair_sound name_sound module_argument_sound) (pair_lawful name_lawful module_argument_lawful) };
 
-    #[inline(always)]
     fn view_of(bytes: &'a [u8]) -> Result<((&'a str, ModuleArg), &'a [u8]), Refusal> {
         let (name, rest) = text_of(bytes)?;
         let (value, rest) = ModuleArg::view_of(rest)?;
@@ -141,7 +140,6 @@ impl<'a> View<'a> for (&'a str, ComponentExportKind, u32) {
 
     ghost reading = { read_by (triple_sound name_sound component_export_kind_sound u32_sound) (triple_lawful name_lawful component_export_kind_lawful u32_lawful) };
 
-    #[inline(always)]
     fn view_of(
         bytes: &'a [u8],
     ) -> Result<((&'a str, ComponentExportKind, u32), &'a [u8]), Refusal> {
@@ -162,7 +160,6 @@ impl<'a> View<'a> for (NameView<'a>, ComponentExportKind, u32) {
 
     ghost reading = { read_by (triple_sound extern_name_sound component_export_kind_sound u32_sound) (triple_lawful extern_name_lawful component_export_kind_lawful u32_lawful) };
 
-    #[inline(always)]
     fn view_of(
         bytes: &'a [u8],
     ) -> Result<((NameView<'a>, ComponentExportKind, u32), &'a [u8]), Refusal> {
@@ -185,7 +182,6 @@ impl<'a> View<'a> for InstanceView<'a> {
     ghost is_counted = { IsCountedInstance };
 
     #[tactic(auto, unfolding(wenc_base::specs::Readers::choose))]
-    #[inline(always)]
     fn view_of(bytes: &'a [u8]) -> Result<(InstanceView<'a>, &'a [u8]), Refusal> {
         match byte(bytes)? {
             (0x00, rest) => {
