@@ -141,16 +141,38 @@ impl<'a, A: Allocator + Copy> TreeOf<NameView<'a>, A> for NameTree<A> {
                 options: None,
             }),
             (implements, version_suffix, external_id) => {
-                let options = NameOptions {
-                    implements: Option::tree_of(alloc, implements)?,
-                    version_suffix: Option::tree_of(alloc, version_suffix)?,
-                    external_id: Option::tree_of(alloc, external_id)?,
-                };
-                let options = Some(Box::new(alloc, options)?);
-                Ok(NameTree { name, options })
+                let options = options_of(alloc, implements, version_suffix, external_id)?;
+                Ok(NameTree {
+                    name,
+                    options: Some(options),
+                })
             }
         }
     }
+}
+
+/// Returns owned options of a name that equal these.
+#[cold]
+#[inline(never)]
+fn options_of<A: Allocator + Copy>(
+    alloc: A,
+    implements: Option<&str>,
+    version_suffix: Option<&str>,
+    external_id: Option<&str>,
+) -> Result<Box<NameOptions<A>, A>, AllocError>
+    ensures same_implements { IfOk result (λ o. OptionCopies (λ t v. string_bytes t ≡ v.now)
+        o.value.implements implements.entry) }
+    ensures same_version_suffix { IfOk result (λ o. OptionCopies (λ t v. string_bytes t ≡ v.now)
+        o.value.version_suffix version_suffix.entry) }
+    ensures same_external_id { IfOk result (λ o. OptionCopies (λ t v. string_bytes t ≡ v.now)
+        o.value.external_id external_id.entry) }
+{
+    let options = NameOptions {
+        implements: Option::tree_of(alloc, implements)?,
+        version_suffix: Option::tree_of(alloc, version_suffix)?,
+        external_id: Option::tree_of(alloc, external_id)?,
+    };
+    Ok(Box::new(alloc, options)?)
 }
 
 impl<'a, A: Allocator + Copy> TreeOf<(&'a str, ComponentValType), A>
