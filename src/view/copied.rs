@@ -23,11 +23,17 @@ macro_rules! copied {
                 ///
                 /// Needs the feature `tree`.
                 fn to_tree | try_to_tree(&self) -> $tree {
-                    $tree::tree_of(Global, *self).map_err(|_| Error::NoMemory)
+                    copied(*self)
                 }
             }
         }
     )+};
+}
+
+/// Copies a value, out of line: many calls lead here.
+#[inline(never)]
+fn copied<V, T: TreeOf<V>>(view: V) -> Result<T, Error> {
+    T::tree_of(Global, view).map_err(|_| Error::NoMemory)
 }
 
 copied! {
