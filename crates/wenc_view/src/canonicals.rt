@@ -1,6 +1,6 @@
 //! Canonical functions, each by its opcode.
 ghost use Rattle.std.specs.Prelude.{◌∷◌, IfOk};
-ghost use Rattle.wenc_base.specs.Prelude.{pick, nowhere};
+ghost use Rattle.wenc_base.specs.Prelude.{pick, nowhere, read_u32};
 ghost use Rattle.wenc_canon.specs.Prelude.{read_lifted, read_lowered, rows, read_canonical_option};
 ghost use Rattle.wenc_canon.specs.Prelude.{canonical_option_sound, canonical_option_lawful};
 ghost use Rattle.wenc_canon.specs.Prelude.{Canonical, canonical_sound, canonical_lawful};
@@ -35,24 +35,24 @@ impl<'a> View<'a> for CanonicalOption {
             (0x01, rest) => Ok((CanonicalOption::UTF16, rest)),
             (0x02, rest) => Ok((CanonicalOption::CompactUTF16, rest)),
             (0x03, rest) => {
-                let (memory, rest) = u32::view_of(rest)?;
+                let (memory, rest) = index(rest)?;
                 Ok((CanonicalOption::Memory(memory), rest))
             }
             (0x04, rest) => {
-                let (func, rest) = u32::view_of(rest)?;
+                let (func, rest) = index(rest)?;
                 Ok((CanonicalOption::Realloc(func), rest))
             }
             (0x05, rest) => {
-                let (func, rest) = u32::view_of(rest)?;
+                let (func, rest) = index(rest)?;
                 Ok((CanonicalOption::PostReturn(func), rest))
             }
             (0x06, rest) => Ok((CanonicalOption::Async, rest)),
             (0x07, rest) => {
-                let (func, rest) = u32::view_of(rest)?;
+                let (func, rest) = index(rest)?;
                 Ok((CanonicalOption::Callback(func), rest))
             }
             (0x08, rest) => {
-                let (ty, rest) = u32::view_of(rest)?;
+                let (ty, rest) = index(rest)?;
                 Ok((CanonicalOption::CoreType(ty), rest))
             }
             (0x09, rest) => Ok((CanonicalOption::Gc, rest)),
@@ -73,6 +73,15 @@ fn zero(bytes: &[u8]) -> Result<((), &[u8]), Refusal>
     }
 }
 
+/// Reads an index out of line, for functions that few components have.
+#[inline(never)]
+fn index(bytes: &[u8]) -> Result<(u32, &[u8]), Refusal>
+    ensures found { Gives (λ x. (x.0, x.1.now)) result (read_u32 bytes.now) }
+    ensures place { IsWithin (λ x. x.1.now) bytes.now result }
+{
+    u32::view_of(bytes)
+}
+
 /// Reads a lifted core function, after its opcode.
 #[tactic(auto, unfolding(wenc_base::specs::Readers::choose))]
 fn lifted(bytes: &[u8]) -> Result<(CanonView<'_>, &[u8]), Refusal>
@@ -82,9 +91,9 @@ fn lifted(bytes: &[u8]) -> Result<(CanonView<'_>, &[u8]), Refusal>
 {
     match byte(bytes)? {
         (0x00, rest) => {
-            let (core_func, rest) = u32::view_of(rest)?;
+            let (core_func, rest) = index(rest)?;
             let (options, rest) = ListOf::view_of(rest)?;
-            let (ty, rest) = u32::view_of(rest)?;
+            let (ty, rest) = index(rest)?;
             let function = CanonView::Lift {
                 core_func,
                 ty,
@@ -105,7 +114,7 @@ fn lowered(bytes: &[u8]) -> Result<(CanonView<'_>, &[u8]), Refusal>
 {
     match byte(bytes)? {
         (0x00, rest) => {
-            let (func, rest) = u32::view_of(rest)?;
+            let (func, rest) = index(rest)?;
             let (options, rest) = ListOf::view_of(rest)?;
             Ok((CanonView::Lower { func, options }, rest))
         }
@@ -114,26 +123,26 @@ fn lowered(bytes: &[u8]) -> Result<(CanonView<'_>, &[u8]), Refusal>
 }
 
 /// Reads the index of a type, and options.
-#[inline(always)]
+#[inline(never)]
 fn ty_and_options(bytes: &[u8]) -> Result<(u32, ListOf<'_, CanonicalOption>, &[u8]), Refusal>
     ensures found { Gives (λ x. ((x.0, list_view read_canonical_option x.1), x.2.now)) result
         (read_ty_and_options bytes.now) }
     ensures place { IsWithin (λ x. x.2.now) bytes.now result }
     ensures counted { IfOk result (λ x. IsCounted read_canonical_option x.1) }
 {
-    let (ty, rest) = u32::view_of(bytes)?;
+    let (ty, rest) = index(bytes)?;
     let (options, rest) = ListOf::view_of(rest)?;
     Ok((ty, options, rest))
 }
 
 /// Reads the byte `00` and the index of a memory.
-#[inline(always)]
+#[inline(never)]
 fn waited_memory(bytes: &[u8]) -> Result<(u32, &[u8]), Refusal>
     ensures found { Gives (λ x. ((tt, x.0), x.1.now)) result (read_waited_memory bytes.now) }
     ensures place { IsWithin (λ x. x.1.now) bytes.now result }
 {
     let (_, rest) = zero(bytes)?;
-    u32::view_of(rest)
+    index(rest)
 }
 
 // The fields of a row, after its opcode.
@@ -145,8 +154,8 @@ macro_rules! plain {
 }
 
 macro_rules! indexed {
-    ($bytes:ident, $function:ident) => {{
-        let (index, rest) = u32::view_of($bytes)?;
+    ($read:expr, $function:ident) => {{
+        let (index, rest) = $read?;
         Ok((CanonView::$function(index), rest))
     }};
 }
@@ -226,9 +235,9 @@ fn function(opcode: u8, bytes: &[u8]) -> Result<(CanonView<'_>, &[u8]), Refusal>
     match opcode {
         0x00 => lifted(bytes),
         0x01 => lowered(bytes),
-        0x02 => indexed!(bytes, ResourceNew),
-        0x03 => indexed!(bytes, ResourceDrop),
-        0x04 => indexed!(bytes, ResourceRep),
+        0x02 => indexed!(u32::view_of(bytes), ResourceNew),
+        0x03 => indexed!(u32::view_of(bytes), ResourceDrop),
+        0x04 => indexed!(u32::view_of(bytes), ResourceRep),
         0x05 => plain!(bytes, TaskCancel),
         0x06 => flagged!(bytes, SubtaskCancel),
         0x09 => returning!(bytes, TaskReturn),
@@ -248,13 +257,13 @@ fn of_stream(opcode: u8, bytes: &[u8]) -> Result<(CanonView<'_>, &[u8]), Refusal
     ensures counted { IfOk result (λ x. IsCountedCanon x.0) }
 {
     match opcode {
-        0x0e => indexed!(bytes, StreamNew),
+        0x0e => indexed!(index(bytes), StreamNew),
         0x0f => with_options!(bytes, StreamRead),
         0x10 => with_options!(bytes, StreamWrite),
         0x11 => cancelled!(bytes, StreamCancelRead),
         0x12 => cancelled!(bytes, StreamCancelWrite),
-        0x13 => indexed!(bytes, StreamDropReadable),
-        0x14 => indexed!(bytes, StreamDropWritable),
+        0x13 => indexed!(index(bytes), StreamDropReadable),
+        0x14 => indexed!(index(bytes), StreamDropWritable),
         _ => of_future(opcode, bytes),
     }
 }
@@ -267,13 +276,13 @@ fn of_future(opcode: u8, bytes: &[u8]) -> Result<(CanonView<'_>, &[u8]), Refusal
     ensures counted { IfOk result (λ x. IsCountedCanon x.0) }
 {
     match opcode {
-        0x15 => indexed!(bytes, FutureNew),
+        0x15 => indexed!(index(bytes), FutureNew),
         0x16 => with_options!(bytes, FutureRead),
         0x17 => with_options!(bytes, FutureWrite),
         0x18 => cancelled!(bytes, FutureCancelRead),
         0x19 => cancelled!(bytes, FutureCancelWrite),
-        0x1a => indexed!(bytes, FutureDropReadable),
-        0x1b => indexed!(bytes, FutureDropWritable),
+        0x1a => indexed!(index(bytes), FutureDropReadable),
+        0x1b => indexed!(index(bytes), FutureDropWritable),
         _ => of_error_context(opcode, bytes),
     }
 }
@@ -329,9 +338,9 @@ fn of_forward(opcode: u8, bytes: &[u8]) -> Result<(CanonView<'_>, &[u8]), Refusa
     ensures counted { IfOk result (λ x. IsCountedCanon x.0) }
 {
     match opcode {
-        0x2e => indexed!(bytes, StreamForward),
-        0x2f => indexed!(bytes, FutureForward),
-        0x40 => indexed!(bytes, ThreadSpawnRef),
+        0x2e => indexed!(index(bytes), StreamForward),
+        0x2f => indexed!(index(bytes), FutureForward),
+        0x40 => indexed!(index(bytes), ThreadSpawnRef),
         0x41 => in_table!(bytes, ThreadSpawnIndirect),
         0x42 => plain!(bytes, ThreadAvailableParallelism),
         _ => Err(Refusal::before(bytes, Expected::Opcode)),

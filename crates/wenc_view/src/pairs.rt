@@ -6,7 +6,7 @@ use crate::view::View;
 use wenc_read::Refusal;
 
 /// Reads two values, one after the other. Returns them and the bytes after them.
-#[inline(always)]
+#[inline(never)]
 pub(crate) fn both<'a, T: View<'a>, U: View<'a>>(
     bytes: &'a [u8],
 ) -> Result<(T, U, &'a [u8]), Refusal>

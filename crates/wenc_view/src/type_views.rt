@@ -18,6 +18,7 @@ use crate::core_type_views::CoreTypeView;
 use crate::defined_types::DefinedView;
 use crate::extern_names::NameView;
 use crate::list_of::ListOf;
+use crate::pairs::both;
 use crate::view::View;
 use wenc_base::ValType;
 use wenc_parts::{Alias, ComponentTypeRef, ComponentValType, ResultList};
@@ -331,8 +332,7 @@ fn imported(bytes: &[u8]) -> Result<(ComponentDeclView<'_>, &[u8]), Refusal>
     ensures flat { IfOk result (λ x. component_declaration_nests x.0 ≡ 0) }
     ensures counted { IfOk result (λ x. IsCountedComponentDecl x.0) }
 {
-    let (name, rest) = NameView::view_of(bytes)?;
-    let (ty, rest) = ComponentTypeRef::view_of(rest)?;
+    let (name, ty, rest) = both(bytes)?;
     Ok((ComponentDeclView::Import { name, ty }, rest))
 }
 
@@ -344,8 +344,7 @@ fn exported(bytes: &[u8]) -> Result<(InstanceDeclView<'_>, &[u8]), Refusal>
     ensures flat { IfOk result (λ x. instance_declaration_nests x.0 ≡ 0) }
     ensures counted { IfOk result (λ x. IsCountedInstanceDecl x.0) }
 {
-    let (name, rest) = NameView::view_of(bytes)?;
-    let (ty, rest) = ComponentTypeRef::view_of(rest)?;
+    let (name, ty, rest) = both(bytes)?;
     Ok((InstanceDeclView::Export { name, ty }, rest))
 }
 
