@@ -78,6 +78,7 @@ impl<'a> NestedSections<'a> {
     }
 
     /// Returns the next section, with the depth of its component.
+    #[inline(always)]
     fn take(&mut self) -> Result<Option<(usize, SectionReader<'a>)>, ListFault> {
         if let Some(section) = self.last.take() {
             self.enter(section)?;

@@ -172,6 +172,7 @@ impl<'a> Reader<'a> {
     }
 
     /// Adds an item at this byte offset, of a section that ends at this one.
+    #[inline(always)]
     fn item(&mut self, place: usize, end: usize, item: ItemView<'a>) -> Result<(), ListFault> {
         self.settle(&item);
         self.meaning(place, Meaning::Item(item))?;

@@ -226,6 +226,7 @@ macro_rules! returning {
 
 /// Reads a canonical function, after its opcode: the fields of its row. The rows before those of
 /// streams are here.
+#[inline(always)]
 fn function(opcode: u8, bytes: &[u8]) -> Result<(CanonView<'_>, &[u8]), Refusal>
     ensures found { Gives (λ x. (canon_seen x.0, x.1.now)) result
         (pick rows nowhere opcode bytes.now) }
@@ -250,6 +251,7 @@ fn function(opcode: u8, bytes: &[u8]) -> Result<(CanonView<'_>, &[u8]), Refusal>
 }
 
 /// Reads the fields of a row, from those of streams on.
+#[inline(never)]
 fn of_stream(opcode: u8, bytes: &[u8]) -> Result<(CanonView<'_>, &[u8]), Refusal>
     ensures found { Gives (λ x. (canon_seen x.0, x.1.now)) result
         (pick stream_rows nowhere opcode bytes.now) }
@@ -269,6 +271,7 @@ fn of_stream(opcode: u8, bytes: &[u8]) -> Result<(CanonView<'_>, &[u8]), Refusal
 }
 
 /// Reads the fields of a row, from those of futures on.
+#[inline(never)]
 fn of_future(opcode: u8, bytes: &[u8]) -> Result<(CanonView<'_>, &[u8]), Refusal>
     ensures found { Gives (λ x. (canon_seen x.0, x.1.now)) result
         (pick future_rows nowhere opcode bytes.now) }
@@ -289,6 +292,7 @@ fn of_future(opcode: u8, bytes: &[u8]) -> Result<(CanonView<'_>, &[u8]), Refusal
 
 /// Reads the fields of a row, from those of error contexts on: of these, waitable sets and
 /// backpressure.
+#[inline(never)]
 fn of_error_context(opcode: u8, bytes: &[u8]) -> Result<(CanonView<'_>, &[u8]), Refusal>
     ensures found { Gives (λ x. (canon_seen x.0, x.1.now)) result
         (pick error_context_rows nowhere opcode bytes.now) }
@@ -311,6 +315,7 @@ fn of_error_context(opcode: u8, bytes: &[u8]) -> Result<(CanonView<'_>, &[u8]), 
 }
 
 /// Reads the fields of a row, from those of threads on.
+#[inline(never)]
 fn of_thread(opcode: u8, bytes: &[u8]) -> Result<(CanonView<'_>, &[u8]), Refusal>
     ensures found { Gives (λ x. (canon_seen x.0, x.1.now)) result
         (pick thread_rows nowhere opcode bytes.now) }
@@ -331,6 +336,7 @@ fn of_thread(opcode: u8, bytes: &[u8]) -> Result<(CanonView<'_>, &[u8]), Refusal
 }
 
 /// Reads the fields of one of the last rows: forwarding, and spawned threads.
+#[inline(never)]
 fn of_forward(opcode: u8, bytes: &[u8]) -> Result<(CanonView<'_>, &[u8]), Refusal>
     ensures found { Gives (λ x. (canon_seen x.0, x.1.now)) result
         (pick forward_rows nowhere opcode bytes.now) }

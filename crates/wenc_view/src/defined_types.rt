@@ -108,6 +108,7 @@ impl<'a> View<'a> for CaseView<'a> {
 }
 
 /// Reads a defined value type that isn't primitive, after its first byte.
+#[inline(always)]
 fn defined(first: u8, bytes: &[u8]) -> Result<(DefinedView<'_>, &[u8]), Refusal>
     ensures found { Gives (λ x. (defined_seen x.0, x.1.now)) result
         (read_defined_row first bytes.now) }
@@ -153,6 +154,7 @@ fn defined(first: u8, bytes: &[u8]) -> Result<(DefinedView<'_>, &[u8]), Refusal>
 }
 
 /// Reads a handle, fixed-length list, stream, future or map type, after its first byte.
+#[inline(always)]
 fn other_defined(first: u8, bytes: &[u8]) -> Result<(DefinedView<'_>, &[u8]), Refusal>
     ensures found { Gives (λ x. (defined_seen x.0, x.1.now)) result
         (pick handle_rows nowhere first bytes.now) }
