@@ -40,6 +40,7 @@ pub enum CoreItem<'a> {
 
 impl<'a> CoreItem<'a> {
     /// Reads the first item of a section of this kind. Returns it and the bytes after it.
+    #[inline(always)]
     fn first(kind: SectionId, bytes: &'a [u8]) -> Result<(Self, &'a [u8]), Refusal> {
         Ok(match kind {
             SectionId::Import => {
@@ -142,6 +143,7 @@ impl<'a> CoreItems<'a> {
     }
 
     /// Returns the next item, with its byte offsets.
+    #[inline(always)]
     fn take(&mut self, kind: SectionId) -> Option<<Self as Iterator>::Item> {
         let place = self.end - self.rest.len();
         let left = match self.left {

@@ -88,6 +88,7 @@ impl<'a> NamesReader<'a> {
     }
 
     /// Takes the next name from `rest`. Empty subsections and those with unknown ids are skipped.
+    #[inline(always)]
     fn take(&mut self, rest: &mut &'a [u8]) -> Result<Option<DebugName<'a>>, Cause> {
         let data = self.data;
         let cause = |behind: &[u8]| {

@@ -79,6 +79,7 @@ impl Definitions<'_> {
 
     /// Returns the entry that this one at this byte offset is the same as, given the scopes around
     /// it by their distance. `None` if there is none.
+    #[inline(always)]
     pub(super) fn target_of(
         &self,
         around: impl Fn(usize) -> Option<u32>,
