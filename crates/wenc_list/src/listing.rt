@@ -121,7 +121,7 @@ fn section<A: Allocator + Copy>(
 }
 
 /// Reads the sections up to the end, and counts the indices that their items take.
-#[inline(never)]
+#[inline(always)]
 fn sections<A: Allocator + Copy>(
     alloc: A,
     from: Sections<'_>,
