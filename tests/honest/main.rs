@@ -19,7 +19,7 @@ mod reader;
 use allocators::LEFT_OUT;
 use erase::known::{APART, DERIVED_TOO, NARROWED, PARTIAL, TREES, WIDENED};
 use lexer::{Token, lex};
-use reader::{WAYS, compare, has_conditions, read};
+use reader::{Old, WAYS, compare, has_conditions, read};
 use std::collections::BTreeMap;
 use std::fs;
 use std::path::{Path, PathBuf};
@@ -142,7 +142,7 @@ fn each_token_counts() {
         let longer = format!("{new}\n");
         let names = (&*name, module(&path));
         assert_eq!(read(names, &old, &longer, HAS_LINES, &mut counts).is_err(), HAS_LINES);
-        let (old, mut new) = (lex(&old), lex(&new));
+        let (old, mut new) = (Old::new(&old, &mut counts), lex(&new));
         for at in 0..if new.len() < 500 { new.len() } else { 0 } {
             let place = format!("{}:{}", path.display(), new[at].line);
             let mut is_found =

@@ -86,7 +86,7 @@ pub fn read(
     has_lines: bool,
     counts: &mut BTreeMap<&'static str, usize>,
 ) -> Result<(), String> {
-    compare(names, &lex(old), &lex(new), has_lines, counts)?;
+    compare(names, &Old::new(old, counts), &lex(new), has_lines, counts)?;
     let lines = (old.lines().count(), new.lines().count());
     if lines.0 == lines.1 || !has_lines {
         Ok(())
@@ -95,23 +95,37 @@ pub fn read(
     }
 }
 
+/// The tokens of a source without what is left out of it with its allocators.
+pub struct Old {
+    tokens: Vec<Token>,
+    /// The names of allocators, which become `Global` where they are left.
+    allocators: Vec<String>,
+}
+
+impl Old {
+    /// Reads a source, and counts what is left out of it.
+    pub fn new(source: &str, counts: &mut BTreeMap<&'static str, usize>) -> Old {
+        let mut tokens = lex(source);
+        let allocators = allocators::names(&tokens);
+        allocators::leave_out(&mut tokens, &allocators, counts);
+        Old { tokens, allocators }
+    }
+}
+
 /// Reads the tokens of a source beside those of its Rust, and counts each way in which they part.
 /// Refuses what is in no way.
 pub fn compare(
     (crate_name, module): (&str, &str),
-    old: &[Token],
+    old: &Old,
     new: &[Token],
     has_lines: bool,
     counts: &mut BTreeMap<&'static str, usize>,
 ) -> Result<(), String> {
-    let names = allocators::names(old);
-    let mut old = old.to_vec();
-    allocators::leave_out(&mut old, &names, counts);
     let has_conditions = has_conditions(crate_name, module);
     let mut source = Source {
         crate_name,
-        tokens: &old,
-        allocators: &names,
+        tokens: &old.tokens,
+        allocators: &old.allocators,
         has_conditions,
         ..Source::default()
     };
@@ -122,7 +136,7 @@ pub fn compare(
         take("prelude", line, "use crate::shim::prelude::*;", &mut rest)?;
         counts.insert("prelude", 1);
     }
-    while let Some(first) = old.get(source.at) {
+    while let Some(first) = old.tokens.get(source.at) {
         if let Some(why) = source.unknown() {
             return Err(format!("{}: {:?} is {why}", first.line, first.text));
         }
@@ -176,7 +190,6 @@ fn take(way: &str, line: Option<usize>, wanted: &str, rest: &mut &[Token]) -> Re
 struct Source<'a> {
     crate_name: &'a str,
     tokens: &'a [Token],
-    /// The names of allocators, which become `Global` where they are left.
     allocators: &'a [String],
     at: usize,
     /// Where an enum of errors ends, and what is written there.
