@@ -2,7 +2,7 @@
 //! instances export:
 //!
 //! ```sh
-//! cargo run -r --features reader --example interface -- COMPONENT
+//! cargo run -r --features walk --example interface -- COMPONENT
 //! ```
 //!
 //! `wenc-dump --wit` prints a whole world.
