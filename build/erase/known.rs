@@ -106,7 +106,7 @@ pub const TREES: [&str; 22] = [
 ];
 
 /// Types that derive more for users of Rust than their sources say, with the additional derives.
-pub const DERIVED_TOO: [(&str, &str); 44] = [
+pub const DERIVED_TOO: [(&str, &str); 40] = [
     ("AbstractHeapType", "Hash"),
     ("Alias", "Debug, Hash, PartialEq, Eq"),
     ("ArrayType", "Debug, Hash"),
@@ -117,13 +117,11 @@ pub const DERIVED_TOO: [(&str, &str); 44] = [
     ("ComponentExportKind", "Hash"),
     ("ComponentOuterAliasKind", "Hash"),
     ("ComponentSectionId", "Hash"),
-    ("ComponentStartSection", "Debug"),
     ("ComponentTypeRef", "Debug"),
     ("ComponentValType", "Debug"),
     ("CompositeView", "Debug, PartialEq, Eq, Hash"),
     ("CoreInstanceView", "Debug, PartialEq, Eq, Hash"),
     ("CoreTypeView", "Debug, PartialEq, Eq, Hash"),
-    ("CustomSection", "Debug"),
     ("DefinedView", "Debug, PartialEq, Eq, Hash"),
     ("EntityType", "Debug, Hash"),
     ("ExportKind", "Hash"),
@@ -139,8 +137,6 @@ pub const DERIVED_TOO: [(&str, &str); 44] = [
     ("ModuleArg", "Hash"),
     ("ModuleDeclView", "Debug, PartialEq, Eq, Hash"),
     ("NameView", "Debug, PartialEq, Eq, Hash"),
-    ("RawCustomSection", "Debug"),
-    ("RawSection", "Debug"),
     ("RefType", "Debug, Hash"),
     ("ResultList", "Debug"),
     ("Space", "Hash, PartialOrd, Ord"),

@@ -7,7 +7,7 @@ use core::fmt;
 pub trait Allocator {}
 
 /// The global allocator, the only one in Rust.
-#[derive(Clone, Copy, Debug, Default, PartialEq, Eq, Hash)]
+#[derive(Clone, Copy, Debug, PartialEq, Eq)]
 pub struct Global;
 
 /// Returns an error if a test plans that the next allocation is refused.

@@ -6,6 +6,7 @@ pub mod alloc;
 pub mod borrow;
 #[cfg(any(feature = "walk", script, test))]
 mod borrowed_lists;
+#[cfg(any(feature = "tree", script, test))]
 pub mod boxed;
 pub mod convert;
 #[cfg(any(script, test))]
@@ -18,6 +19,7 @@ pub mod vec;
 /// The names that are in scope by default.
 pub mod prelude {
     pub use super::alloc::TryClone;
+    #[cfg(any(feature = "tree", script, test))]
     pub use super::boxed::Box;
     pub use super::iter::CollectUsing;
     #[cfg(any(script, test))]
