@@ -422,7 +422,7 @@ fn end_member<A: Allocator>(
             *count = next;
             Ok(())
         }
-        Err(fault) => cut(bytes, start, fault),
+        Err(fault) => cut_apart(bytes, start, fault),
     }
 }
 
