@@ -1,5 +1,5 @@
 //! Reads an item of a section.
-ghost use Rattle.std.specs.Prelude.{◌≡◌, ◌≢◌, ◌⊎◌, Ok, IfOk};
+ghost use Rattle.std.specs.Prelude.{◌≡◌, ◌⊎◌, Ok, IfOk};
 ghost use Rattle.wenc_base.specs.Prelude.{read_raw};
 ghost use Rattle.wenc_list.specs.Prelude.{read_core_instance_item, read_core_type_item};
 ghost use Rattle.wenc_list.specs.Prelude.{read_instance_item, read_alias_item, read_type_item};
@@ -201,29 +201,6 @@ fn alone(id: u8, content: &[u8]) -> Result<(ItemView<'_>, &[u8]), Refusal>
     }
 }
 
-/// Reads the item that begins the remaining bytes of a section with this id, other than that of
-/// types. Returns it and the bytes after it.
-#[inline(always)]
-fn flat_item_in(id: u8, bytes: &[u8]) -> Result<(ItemView<'_>, &[u8]), Refusal>
-    requires { id ≢ 7 }
-    ensures found { Gives (λ x. (item_seen x.0, x.1.now)) result
-        (read_item_in 100 id bytes.now) }
-    ensures place { IsWithin (λ x. x.1.now) bytes.now result }
-    ensures counted { IfOk result (λ x. IsCountedItem x.0) }
-{
-    match id {
-        0 | 1 | 4 | 9 => alone(id, bytes),
-        2 => core_instance(bytes),
-        3 => core_type(bytes),
-        5 => instance(bytes),
-        6 => alias(bytes),
-        8 => canon(bytes),
-        10 => import(bytes),
-        11 => export(bytes),
-        _ => Err(Refusal::at(bytes, Expected::End)),
-    }
-}
-
 /// Reads the item that begins the remaining bytes of a section with this id. Returns it and the
 /// bytes after it.
 #[inline(always)]
@@ -234,7 +211,15 @@ pub(crate) fn item_in(id: u8, bytes: &[u8]) -> Result<(ItemView<'_>, &[u8]), Nes
     ensures counted { IfOk result (λ x. IsCountedItem x.0) }
 {
     match id {
+        0 | 1 | 4 | 9 => Ok(alone(id, bytes)?),
+        2 => Ok(core_instance(bytes)?),
+        3 => Ok(core_type(bytes)?),
+        5 => Ok(instance(bytes)?),
+        6 => Ok(alias(bytes)?),
         7 => ty(bytes),
-        _ => Ok(flat_item_in(id, bytes)?),
+        8 => Ok(canon(bytes)?),
+        10 => Ok(import(bytes)?),
+        11 => Ok(export(bytes)?),
+        _ => Err(NestedRefusal::Flat(Refusal::at(bytes, Expected::End))),
     }
 }

@@ -15,7 +15,7 @@ use crate::exports::ComponentExportKind;
 use crate::types::ComponentValType;
 use std::alloc::{Allocator, Global};
 use std::borrow::CowStr;
-use wenc_base::{Delimited, DelimitedEq, Encode, Fault, Prefix, encode_byte};
+use wenc_base::{Delimited, DelimitedEq, Encode, Fault, Prefix, Tagged, encode_byte};
 
 /// The bounds of an imported or exported type (component model, binary format, `typebound`).
 #[derive(Clone, Copy, PartialEq, Eq, Hash)]
@@ -188,7 +188,7 @@ impl<'a, A: Allocator> Encode for ComponentExternName<'a, A> {
         if self.option_count() != 0 {
             return self.encode_with_options(sink);
         }
-        Prefix(0x00, &self.name.as_str()).encode(sink)
+        Tagged(0x00, &self.name.as_str()).encode(sink)
     }
 }
 
