@@ -68,6 +68,7 @@ fn section(row: SectionRow) -> [usize; 5] {
 /// All sections and items of a component, with what follows the last.
 fn walked(bytes: &[u8]) -> (Vec<SectionRow>, Vec<ItemRow>, Status) {
     let (mut walk, mut sections, mut items) = (begun(bytes), Vec::new(), Vec::new());
+    assert_eq!((walk.next_section, walk.next_item, walk.end, walk.items, walk.id), (8, 0, 0, 0, 0));
     assert_eq!(next_item(&mut walk).map(drop), Err(Status::End), "no section is begun");
     loop {
         match next_section(&mut walk) {
