@@ -10,6 +10,7 @@ use crate::proved::wenc_base::{Fault, Holder, Verbatim};
 use crate::proved::wenc_canon::AddsBuiltin;
 use crate::proved::wenc_parts::{Alias, ComponentOuterAliasKind};
 use crate::shim::alloc::Global;
+use std::vec;
 
 /// What the holder has after the bytes before its members.
 const OVER: &[u8] = &[0x03, 0x01, 0x03, 0x00];
@@ -83,6 +84,22 @@ fn over_bytes() {
     assert_eq!(holder.add_listed(&42u32, values(), &42u32), Err(Fault::TooMany));
     assert_eq!(holder.add_listed(&OPEN, values(), &42u32), Err(Fault::Unfinished));
     assert!(has_parts(holder, &[0xcc], 1, u32::MAX));
+}
+
+// A section has at most 4294967295 bytes. Pages of zeros that are never read take no memory.
+#[test]
+fn members_of_the_largest_section() {
+    let mut bytes = vec![0; 1 << 32];
+    bytes.truncate((1 << 32) - 3);
+    let mut holder = Holder::over(bytes, 0, 1);
+    assert_eq!(holder.add(&[0x2a, 0x2a]), Err(Fault::TooLarge));
+    assert_eq!(holder.open(&[0x2a, 0x2a]), Err(Fault::TooLarge));
+    holder.add(&[0x2a]).unwrap();
+    assert_eq!(holder.add(&[0x2a]), Err(Fault::TooLarge));
+    assert_eq!(holder.open(&[0x2a]), Err(Fault::TooLarge));
+    holder.add(&[]).unwrap();
+    let (bytes, kept, count, is_finished) = holder.into_parts();
+    assert_eq!((bytes.len(), kept, count, is_finished), (4294967294, 0, 3, true));
 }
 
 const OUTER_TYPE: Alias<'static> =
