@@ -459,6 +459,7 @@ impl<'a> Iterator for Numbered<'a> {
 
     fn next(&mut self) -> Option<Self::Item> {
         let field = self.fields.get(self.at)?;
+        // 32 bits: a value has fewer fields.
         self.at += 1;
         Some(field)
     }

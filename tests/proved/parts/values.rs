@@ -3,8 +3,9 @@
 use crate::proved::proved_parts::strangers::own::{Light, write_all};
 use crate::proved::tests::sweeping::{check, check_all};
 use crate::proved::wenc_base::{
-    AbstractHeapType, ByRef, ByteTypes, Encode, Fault, HeapType, RefType, Short, Tagged, ValType,
-    Verbatim, WithSize, encode_byte, encode_list, encoding_size, extend_in_room, section_size,
+    AbstractHeapType, ByRef, ByteTypes, CoreTypeEncoder, Encode, Fault, FieldType, HeapType,
+    Holder, Prefix, RefType, Short, StorageType, Tagged, ValType, Verbatim, WithSize, encode_byte,
+    encode_list, encoding_size, extend_in_room, section_size,
 };
 use crate::shim::alloc::{AllocError, Global};
 use crate::shim::string::{String, StringUsing};
@@ -69,6 +70,7 @@ fn value_types_of_one_byte() {
 
 #[test]
 fn values_around_values() {
+    check(&Prefix(0x2a, &7u32), b"\x2a\x07");
     check(&Tagged(0x2a, &7u32), b"\x2a\x07");
     check_all(&[(Verbatim(b""), b""), (Verbatim(b"\x80\x00"), b"\x80\x00")]);
     check(&(Verbatim(b"\x01"), ((), 2u32)), b"\x01\x02");
@@ -76,6 +78,22 @@ fn values_around_values() {
     check(&WithSize(&()), b"\x00");
     check(&WithSize(&"ab"), b"\x03\x02\x61\x62");
     check(&WithSize(&(128u32, "a", false)), b"\x05\x80\x01\x01\x61\x00");
+}
+
+// The fields of a structure, from an iterator and from a slice.
+#[test]
+fn structures() {
+    let starts: [&[u8]; 4] = [b"\x5f\x00", b"\x5f\x01", b"\x5f\x7f", b"\x5f\x80\x01"];
+    for (count, start) in [0, 1, 127, 128].into_iter().zip(starts) {
+        let field = FieldType { element_type: StorageType::I8, mutable: true };
+        let fields = vec![field; count];
+        let mut types = Holder::new(Global);
+        types.open(&[]).unwrap();
+        CoreTypeEncoder::new(&mut types, false).struct_(fields.iter().copied()).unwrap();
+        types.open(&[]).unwrap();
+        CoreTypeEncoder::new(&mut types, false).slice_struct(&fields).unwrap();
+        assert_eq!(types.as_slice(), [start, &b"\x78\x01".repeat(count)].concat().repeat(2));
+    }
 }
 
 // Of the values of a vector, and of a type that the crates below don't know.
