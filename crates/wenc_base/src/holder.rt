@@ -15,7 +15,7 @@ ghost use Rattle.wenc_base.specs.declared.fault.Fault.TheVariants.{TooLarge, Unf
 mod kept;
 mod openings;
 
-use crate::encode::{Encode, Verbatim, cut, cut_apart, encode_list, extend_in_room};
+use crate::encode::{Encode, Verbatim, cut_apart, encode_list, extend_in_room};
 use crate::fault::Fault;
 use crate::number::encoding_size;
 use crate::short::Short;
