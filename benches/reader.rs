@@ -3,7 +3,7 @@
 //!
 //!     cargo bench --offline --bench reader -- N HOW [grouped]
 //!
-//! HOW is `list`; `walk`, where items are borrowed; `members`, where each member of their lists is
+//! HOW is `list`; `walk`, where items are borrowed; `steps`, where indices are counted, too; `members`, where each member of their lists is
 //! asked for, too; or `trees`, where items are owned.
 //!
 //! `count` counts the instructions that `work` takes.
@@ -15,21 +15,23 @@ mod builder;
 use std::hash::{Hash, Hasher};
 use std::hint::black_box;
 use std::time::Instant;
-use wenc::{ListFault, Sections, list};
+use wenc::{ReadError, Sections, Step, Walk, list};
 
 /// What is timed: all items are read and dropped. Returns how many there are.
 #[inline(never)]
-fn work(component: &[u8], how: &str) -> Result<usize, ListFault> {
+fn work(component: &[u8], how: &str) -> Result<usize, ReadError> {
     match how {
         "list" => Ok(black_box(list(component)?).sections.iter().map(|one| one.items.len()).sum()),
         "walk" => walk(component),
+        "steps" => steps(component),
+        "check" => Ok(Walk::new(component, 100)?.out_of_range().count()),
         "members" => members(component),
         "trees" => trees(component),
         other => panic!("no work is {other}"),
     }
 }
 
-fn walk(component: &[u8]) -> Result<usize, ListFault> {
+fn walk(component: &[u8]) -> Result<usize, ReadError> {
     let mut count = 0;
     for section in Sections::new(component)? {
         for item in section?.items() {
@@ -40,11 +42,22 @@ fn walk(component: &[u8]) -> Result<usize, ListFault> {
     Ok(count)
 }
 
-fn trees(component: &[u8]) -> Result<usize, ListFault> {
+fn steps(component: &[u8]) -> Result<usize, ReadError> {
+    let mut count = 0;
+    for step in Walk::new(component, 100)? {
+        if let Step::Item(item) = step {
+            black_box(item);
+            count += 1;
+        }
+    }
+    Ok(count)
+}
+
+fn trees(component: &[u8]) -> Result<usize, ReadError> {
     let mut count = 0;
     for section in Sections::new(component)? {
-        for item in section?.trees() {
-            black_box(item?);
+        for item in section?.items() {
+            black_box(item?.view.to_tree());
             count += 1;
         }
     }
@@ -76,11 +89,11 @@ impl Hasher for Taken {
     }
 }
 
-fn members(component: &[u8]) -> Result<usize, ListFault> {
+fn members(component: &[u8]) -> Result<usize, ReadError> {
     let (mut count, mut taken) = (0, Taken(0));
     for section in Sections::new(component)? {
         for item in section?.items() {
-            black_box(item?.1).hash(&mut taken);
+            black_box(item?.view).hash(&mut taken);
             count += 1;
         }
     }

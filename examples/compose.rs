@@ -9,20 +9,35 @@
 //! These are functions and interfaces of plain values: an exported resource would also need its
 //! type exported before it.
 
-use wenc::{ComponentBuilder, ComponentExportKind as Kind, ListFault, Sections};
+use wenc::view::{ItemView, NameView};
+use wenc::{ComponentBuilder, ComponentExportKind as Kind, ReadError, Sections};
 
-fn sections(component: &[u8]) -> Result<Sections<'_>, String> {
-    Sections::new(component).map_err(|fault| fault.to_string())
+/// The names and the kinds of what a component imports, and of what it exports.
+#[derive(Default)]
+struct World<'a> {
+    imports: Vec<(NameView<'a>, Kind)>,
+    exports: Vec<(NameView<'a>, Kind)>,
 }
 
-fn all<T>(items: impl Iterator<Item = Result<T, ListFault>>) -> Result<Vec<T>, String> {
-    items.collect::<Result<_, _>>().map_err(|fault| fault.to_string())
+impl<'a> World<'a> {
+    fn of(component: &'a [u8]) -> Result<Self, ReadError> {
+        let mut world = Self::default();
+        for item in Sections::new(component)?.items() {
+            match item?.view {
+                ItemView::Import { name, ty } => world.imports.push((name, ty.kind())),
+                ItemView::Export { name, kind, .. } => world.exports.push((name, kind)),
+                _ => {}
+            }
+        }
+        Ok(world)
+    }
 }
 
 /// Returns the component of both, or why they don't fit together.
 pub fn compose(provider: &[u8], consumer: &[u8]) -> Result<Vec<u8>, String> {
-    let (provided, consumed) = (sections(provider)?, sections(consumer)?);
-    if let Some((import, _)) = all(provided.imports())?.first() {
+    let world = |component| World::of(component).map_err(|error| error.to_string());
+    let (provided, consumed) = (world(provider)?, world(consumer)?);
+    if let Some((import, _)) = provided.imports.first() {
         return Err(format!("the provider imports {}", import.name));
     }
 
@@ -32,10 +47,9 @@ pub fn compose(provider: &[u8], consumer: &[u8]) -> Result<Vec<u8>, String> {
     let provider = builder.instantiate(Some("provider"), component, nothing);
 
     let mut arguments = Vec::new();
-    let exports = all(provided.exports())?;
-    for (name, ty) in all(consumed.imports())? {
-        let (text, kind) = (name.name, ty.kind());
-        if !exports.iter().any(|(export, of, _)| *export == name && *of == kind) {
+    for (name, kind) in consumed.imports {
+        let text = name.name;
+        if !provided.exports.contains(&(name, kind)) {
             return Err(format!("nothing provides {text}"));
         }
         arguments.push((text, kind, builder.alias_export(provider, text, kind)));
@@ -43,7 +57,7 @@ pub fn compose(provider: &[u8], consumer: &[u8]) -> Result<Vec<u8>, String> {
     let component = builder.component_raw(Some("consumer"), consumer);
     let consumer = builder.instantiate(Some("consumer"), component, arguments);
 
-    for (name, kind, _) in all(consumed.exports())? {
+    for (name, kind) in consumed.exports {
         let index = builder.alias_export(consumer, name.name, kind);
         builder.export(name, kind, index, None);
     }

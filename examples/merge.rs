@@ -60,12 +60,12 @@ struct Merged {
 impl Merged {
     /// Adds the items of a component.
     fn add(&mut self, component: &[u8]) -> Result<(), String> {
-        let sections = Sections::new(component).map_err(|fault| fault.to_string())?;
-        let names = sections.names();
+        let sections = Sections::new(component).map_err(|error| error.to_string())?;
+        let names = DebugNames::of(component);
         let mut moved = Moved::default();
-        for item in sections.trees() {
-            let (_, item) = item.map_err(|fault| fault.to_string())?;
-            self.add_item(item, &mut moved)?;
+        for item in sections.items() {
+            let item = item.map_err(|error| error.to_string())?;
+            self.add_item(item.view.to_tree(), &mut moved)?;
         }
         for (space, index, name) in names.iter() {
             let index = moved.index(space, index);
@@ -227,8 +227,7 @@ mod tests {
         let start = component(&[b"\x09\x07\0\0\xff\xff\xff\xff\x0f"]);
         assert_eq!(merge(&start, &start), Err("too many".into()));
         let nested = component(&[b"\x04\x01\0"]);
-        let fault =
-            "a nested component isn't read: no component's header at 0x0: found other bytes";
+        let fault = "no component's header at 0x0: found other bytes: 00";
         assert_eq!(merge(&nested, &start), Err(fault.into()));
     }
 }

@@ -24,14 +24,15 @@ fn with_renamed(
     let mut imports = ItemSection::new(section.id());
     let mut is_renamed = false;
     for item in section.items() {
-        match item? {
-            (_, ItemView::Import { name, ty }) if name.name == old => {
+        let item = item?;
+        match item.view {
+            ItemView::Import { name, ty } if name.name == old => {
                 let name = NameView { name: new, ..name };
                 imports.item(&ItemView::Import { name, ty })?;
                 is_renamed = true;
             }
-            (place, _) => {
-                imports.raw(&component[place])?;
+            _ => {
+                imports.raw(&component[item.range])?;
             }
         }
     }

@@ -7,10 +7,10 @@
 //! Nested components lose theirs too; everything else stays the same byte for byte. `Sections`
 //! reads the component section by section, and the other sections are appended to a `Component`.
 
-use wenc::{Component, ComponentSectionId, ListFault, NestedComponentBytes, Sections};
+use wenc::{Component, ComponentSectionId, NestedComponentBytes, ReadError, Sections};
 
 /// Returns the component without custom sections, or why its sections can't be read.
-pub fn strip(bytes: &[u8]) -> Result<Vec<u8>, ListFault> {
+pub fn strip(bytes: &[u8]) -> Result<Vec<u8>, ReadError> {
     let custom = ComponentSectionId::CoreCustom.into();
     let nested = ComponentSectionId::Component.into();
     let mut stripped = Component::new();
@@ -50,8 +50,9 @@ mod tests {
         let stripped = [b"\0asm\x0d\0\x01\0", &import[..], b"\x04\x08\0asm\x0d\0\x01\0"].concat();
         assert_eq!(strip(&bytes), Ok(stripped.clone()));
         assert_eq!(strip(&stripped), Ok(stripped));
-        let cause = Some(Cause::Few { place: 9, needed: 1, len: 0 });
-        assert_eq!(strip(&bytes[..9]), Err(ListFault::BadSection { place: 8, cause }));
+        let cause = Cause::Few { place: 9, needed: 1, len: 0 };
+        let error = strip(&bytes[..9]).unwrap_err();
+        assert_eq!((error.offset, error.cause), (8, cause));
     }
 
     #[test]

@@ -2,8 +2,9 @@
 
 use crate::proved::wenc_read::{Expected, Refusal, u32_of};
 use crate::proved::wenc_view::View;
+use crate::read_error::{Cause, Part, ReadError};
 use crate::tree::CoreEntityType;
-use crate::{Cause, CoreSection, ExportKind, ModuleFault, SectionId, Unread};
+use crate::{CoreSection, ExportKind, SectionId};
 use core::iter::FusedIterator;
 use core::ops::Range;
 
@@ -77,7 +78,7 @@ impl<'a> CoreSection<'a> {
     ///
     /// ```
     /// use wenc::tree::CoreEntityType;
-    /// use wenc::{Cause, CoreItem, CoreSections, ModuleFault, Unread};
+    /// use wenc::{Cause, CoreItem, CoreSections, Part, ReadError};
     ///
     /// // two imports, of which the second ends too early
     /// let module = b"\0asm\x01\0\0\0\x02\x0a\x02\x01m\x01f\0\x05\x01m\x01";
@@ -90,11 +91,11 @@ impl<'a> CoreSection<'a> {
     /// let ty = CoreEntityType::Function(5);
     /// assert_eq!(item, CoreItem::Import { module: "m", name: "f", ty });
     ///
-    /// let unread = Unread::Item { number: 1, place: 17 };
-    /// let cause = Some(Cause::Few { place: 20, needed: 1, len: 0 });
-    /// assert_eq!(items.next(), Some(Err(ModuleFault::BadItem { unread, cause })));
+    /// let error = items.next().unwrap().unwrap_err();
+    /// assert_eq!((error.offset, error.part), (17, Part::Item(1)));
+    /// assert_eq!(error.cause, Cause::Few { place: 20, needed: 1, len: 0 });
     /// assert_eq!(items.next(), None);
-    /// # Ok::<(), ModuleFault>(())
+    /// # Ok::<(), ReadError>(())
     /// ```
     pub fn items(&self) -> CoreItems<'a> {
         let kind = self.kind();
@@ -113,7 +114,15 @@ impl<'a> CoreSection<'a> {
             // no items, or more than there are bytes
             _ => left.map_or(true, |left| left == 0 || left as usize > rest.len()),
         };
-        CoreItems { kind: kind.filter(is_read), left, number: 0, rest, end: self.range.end }
+        let section = (self.range.start, self.id);
+        CoreItems {
+            section,
+            kind: kind.filter(is_read),
+            left,
+            number: 0,
+            rest,
+            end: self.range.end,
+        }
     }
 }
 
@@ -123,6 +132,8 @@ impl<'a> CoreSection<'a> {
 /// Needs the feature `walk`.
 #[derive(Clone, Debug)]
 pub struct CoreItems<'a> {
+    /// The byte offset and the id of the section.
+    section: (usize, u8),
     /// The kind of the section; `None` if none of it is read, and after an error.
     kind: Option<SectionId>,
     /// The number of items that follow, as stated by the section, or why none is stated.
@@ -135,11 +146,11 @@ pub struct CoreItems<'a> {
 }
 
 impl<'a> CoreItems<'a> {
-    /// Returns the fault of a part that can't be read.
-    fn bad(&self, unread: Unread, refusal: Option<Refusal>) -> ModuleFault {
+    /// Returns why a part can't be read.
+    fn bad(&self, part: Part, refusal: Refusal) -> ReadError {
         let start = self.end - self.rest.len();
-        let cause = |refusal| Cause::new(self.rest, self.rest.len(), refusal).moved(start);
-        ModuleFault::BadItem { unread, cause: refusal.map(cause) }
+        let cause = Cause::new(self.rest, self.rest.len(), refusal).moved(start);
+        ReadError::in_module(self.section, (part, start), cause)
     }
 
     /// Returns the next item, with its byte offsets.
@@ -148,9 +159,12 @@ impl<'a> CoreItems<'a> {
         let place = self.end - self.rest.len();
         let left = match self.left {
             Ok(0) if self.rest.is_empty() => return None,
-            Ok(0) => return Some(Err(self.bad(Unread::Behind { place }, None))),
+            Ok(0) => {
+                let refusal = Refusal::at(self.rest, Expected::End);
+                return Some(Err(self.bad(Part::Rest, refusal)));
+            }
             Ok(left) => left,
-            Err(refusal) => return Some(Err(self.bad(Unread::Count { place }, Some(refusal)))),
+            Err(refusal) => return Some(Err(self.bad(Part::Count, refusal))),
         };
         match CoreItem::first(kind, self.rest) {
             Ok((item, rest)) => {
@@ -158,13 +172,12 @@ impl<'a> CoreItems<'a> {
                 Some(Ok((place..self.end - rest.len(), item)))
             }
             Err(refusal) => {
-                let unread = Unread::Item { number: self.number, place };
                 // of a section of other items the count exceeds the bytes
                 let refusal = match refusal.expected {
                     Expected::End => Refusal::at(self.rest, Expected::Bytes(left)),
                     _ => refusal,
                 };
-                Some(Err(self.bad(unread, Some(refusal))))
+                Some(Err(self.bad(Part::Item(self.number), refusal)))
             }
         }
     }
@@ -172,10 +185,10 @@ impl<'a> CoreItems<'a> {
 
 /// # Errors
 ///
-/// [`ModuleFault::BadItem`] if the count or an item can't be read, or if bytes follow the last
+/// [`ReadError`] if the count or an item can't be read, or if bytes follow the last
 /// item.
 impl<'a> Iterator for CoreItems<'a> {
-    type Item = Result<(Range<usize>, CoreItem<'a>), ModuleFault>;
+    type Item = Result<(Range<usize>, CoreItem<'a>), ReadError>;
 
     fn next(&mut self) -> Option<Self::Item> {
         let kind = self.kind?;

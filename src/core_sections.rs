@@ -1,11 +1,10 @@
 //! A core module section by section.
 
 use crate::cursor::parts_in;
-use crate::list::{Cause, Found, Unread, write_cause, write_part};
 use crate::proved::wenc_list::{behind_module_header, part_of};
 use crate::proved::wenc_view::text_of;
+use crate::read_error::{Cause, Format, ReadError};
 use crate::{RawSection, SectionId};
-use core::fmt;
 use core::iter::FusedIterator;
 use core::ops::Range;
 
@@ -39,7 +38,7 @@ impl CoreSection<'_> {
 /// The iterator ends after an error.
 ///
 /// ```
-/// use wenc::{Cause, CoreSections, ModuleFault, SectionId};
+/// use wenc::{Cause, CoreSections, ReadError, SectionId};
 ///
 /// let module = b"\0asm\x01\0\0\0\x01\x04\x01\x60\0\0\0\x03\x01x\x07\x0a";
 /// let mut sections = CoreSections::new(module)?;
@@ -49,10 +48,10 @@ impl CoreSection<'_> {
 /// let custom = sections.next().unwrap()?;
 /// assert_eq!((custom.name, custom.data), (Some("x"), &[7][..]));
 ///
-/// let cause = Cause::Few { place: 20, needed: 1, len: 0 };
-/// assert_eq!(sections.next(), Some(Err(ModuleFault::BadSection { place: 19, cause })));
+/// let error = sections.next().unwrap().unwrap_err();
+/// assert_eq!((error.offset, error.cause), (19, Cause::Few { place: 20, needed: 1, len: 0 }));
 /// assert_eq!(sections.next(), None);
-/// # Ok::<(), ModuleFault>(())
+/// # Ok::<(), ReadError>(())
 /// ```
 #[derive(Clone, Debug)]
 pub struct CoreSections<'a> {
@@ -65,11 +64,11 @@ impl<'a> CoreSections<'a> {
     ///
     /// # Errors
     ///
-    /// [`ModuleFault::NotAModule`] if the bytes don't begin with the header of a core module.
+    /// [`Part::Header`](crate::Part::Header) if the bytes don't begin with the header of a core module.
     #[doc(alias = "parse")]
-    pub fn new(module: &'a [u8]) -> Result<Self, ModuleFault> {
+    pub fn new(module: &'a [u8]) -> Result<Self, ReadError> {
         let rest = behind_module_header(module)
-            .ok_or_else(|| ModuleFault::NotAModule { found: Found::of(module) })?;
+            .ok_or_else(|| ReadError::header(Format::Module, 0, module))?;
         Ok(Self { module, rest })
     }
 
@@ -79,18 +78,18 @@ impl<'a> CoreSections<'a> {
     /// a name.
     ///
     /// ```
-    /// use wenc::{CoreSections, ModuleFault, RawSection};
+    /// use wenc::{CoreSections, Part, RawSection, ReadError};
     ///
     /// // a custom section without a name
     /// let mut sections = CoreSections::new(b"\0asm\x01\0\0\0\0\x01\x07")?;
     /// let mut clone = sections.clone();
-    /// let fault = sections.next().unwrap().unwrap_err();
-    /// assert!(matches!(fault, ModuleFault::BadSection { place: 8, .. }));
+    /// let error = sections.next().unwrap().unwrap_err();
+    /// assert_eq!((error.offset, error.part), (8, Part::Section));
     /// assert_eq!(sections.next_raw(), None);
     ///
     /// assert_eq!(clone.next_raw(), Some((8..11, RawSection { id: 0, data: &[7] })));
     /// assert_eq!(clone.next(), None);
-    /// # Ok::<(), ModuleFault>(())
+    /// # Ok::<(), ReadError>(())
     /// ```
     pub fn next_raw(&mut self) -> Option<(Range<usize>, RawSection<'a>)> {
         let place = self.offset();
@@ -122,7 +121,7 @@ impl<'a> CoreSections<'a> {
 }
 
 impl<'a> Iterator for CoreSections<'a> {
-    type Item = Result<CoreSection<'a>, ModuleFault>;
+    type Item = Result<CoreSection<'a>, ReadError>;
 
     fn next(&mut self) -> Option<Self::Item> {
         if self.rest.is_empty() {
@@ -130,8 +129,9 @@ impl<'a> Iterator for CoreSections<'a> {
         }
         let (place, first) = (self.offset(), self.first());
         self.rest = first.as_ref().map_or(&[], |(_, rest)| rest);
-        let fault = |cause| ModuleFault::BadSection { place, cause };
-        Some(first.map(|(section, _)| section).map_err(fault))
+        let places = (place, self.module.len());
+        let error = |cause| ReadError::frame(Format::Module, self.module, places, cause);
+        Some(first.map(|(section, _)| section).map_err(error))
     }
 
     #[inline]
@@ -141,50 +141,3 @@ impl<'a> Iterator for CoreSections<'a> {
 }
 
 impl FusedIterator for CoreSections<'_> {}
-
-/// Why a core module can't be read.
-///
-/// It doesn't convert into [`Error`](crate::Error), which says what can't be written.
-///
-/// Needs the feature `walk`.
-#[derive(Clone, Copy, Debug, PartialEq, Eq, Hash)]
-#[non_exhaustive]
-pub enum ModuleFault {
-    /// The bytes don't begin with the header of a core module.
-    NotAModule {
-        /// What they are instead.
-        found: Found,
-    },
-    /// A section lacks a size, a custom section lacks a name, or a size exceeds the module.
-    BadSection {
-        /// The byte offset of its id in the module.
-        place: usize,
-        /// Why.
-        cause: Cause,
-    },
-    /// The content of a section isn't a count and that many items, or isn't exactly one start.
-    BadItem {
-        /// The first part of it that can't be read, by its byte offset in the module.
-        unread: Unread,
-        /// Why it can't be read; `None` for bytes after the last item.
-        cause: Option<Cause>,
-    },
-}
-
-impl fmt::Display for ModuleFault {
-    #[inline]
-    fn fmt(&self, f: &mut fmt::Formatter<'_>) -> fmt::Result {
-        match self {
-            Self::NotAModule { found } => write!(f, "no core module's header: found {found}"),
-            Self::BadSection { place, cause } => {
-                write!(f, "bad core section at {place:#x}: {cause}")
-            }
-            Self::BadItem { unread, cause } => {
-                write_part(f, "bad item", *unread)?;
-                write_cause(f, *cause)
-            }
-        }
-    }
-}
-
-impl core::error::Error for ModuleFault {}

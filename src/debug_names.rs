@@ -1,18 +1,18 @@
 //! The debug names of a component.
 
-use crate::proved::wenc_list::part_of;
+use crate::error::or_panic;
 use crate::proved::wenc_sections::names::NAMES_LABEL;
 use crate::proved::wenc_view::text_of;
 use crate::shim::alloc::{AllocError, Global};
 use crate::shim::string::StringUsing;
-#[cfg(feature = "tree")]
-use crate::tree::ItemTree;
 use crate::tree::Space;
 use crate::twins::twins;
-use crate::{Cause, ComponentNameSection, ComponentSectionId, Error, NameMap, SectionItem};
+use crate::{
+    ComponentNameSection, ComponentSectionId, Error, NameMap, RawSection, ReadError, SectionItem,
+    Sections,
+};
 use alloc::string::String;
 use by_index::ByIndex;
-use core::fmt;
 use core::iter::FusedIterator;
 
 pub use reader::{DebugName, NamesReader};
@@ -28,16 +28,16 @@ mod reader;
 ///
 /// [names]: https://github.com/WebAssembly/component-model/blob/main/design/mvp/Binary.md#name-section
 ///
-/// [`Listing::names`](crate::Listing::names) returns the names of a component; `From` converts them
+/// [`of`](Self::of) returns the names of a component; `From` converts them
 /// to a [`ComponentNameSection`].
 ///
 /// ```
 /// use wenc::tree::Space;
-/// use wenc::{Component, ComponentNameSection, list};
+/// use wenc::{Component, ComponentNameSection, DebugNames};
 ///
 /// let component = b"\0asm\x0d\0\x01\0\x07\x05\x01\x40\0\x01\0\x0a\x06\x01\0\x01f\x01\0\
 ///     \0\x1a\x0ecomponent-name\0\x02\x01c\x01\x05\x01\x01\0\x01g";
-/// let mut names = list(component)?.names();
+/// let mut names = DebugNames::of(component);
 /// assert_eq!(names.component(), Some("c"));
 /// assert_eq!(names.get(Space::Funcs, 0), Some("g"));
 /// assert_eq!(names.get(Space::Types, 0), None);
@@ -49,7 +49,6 @@ mod reader;
 ///     component.as_slice()[8..],
 ///     *b"\0\x27\x0ecomponent-name\0\x02\x01c\x01\x05\x01\x01\0\x01g\x01\x0b\x03\x01\0\x07nothing",
 /// );
-/// # Ok::<(), wenc::ListFault>(())
 /// ```
 #[derive(Clone, Debug, PartialEq, Eq)]
 pub struct DebugNames {
@@ -67,31 +66,37 @@ impl DebugNames {
         Self { component: None, items: [const { ByIndex::new() }; 13] }
     }
 
-    /// Reads the names in these items, as far as they can be read.
-    #[cfg(feature = "tree")]
-    pub(crate) fn of<'a>(items: impl Iterator<Item = &'a ItemTree>) -> Result<Self, Error> {
-        let mut names = Self::new();
-        for item in items {
-            unless_bad(names.read(item))?;
-        }
-        Ok(names)
+    /// Returns the debug names of a component and of its items. Names that can't be read are left
+    /// out, since a malformed custom section doesn't make a component invalid;
+    /// [`read`](Self::read) returns the error. Sections other than custom ones are skipped by their
+    /// sizes. Bytes that aren't a component have no names.
+    ///
+    /// # Panics
+    ///
+    /// Where [`try_of`](Self::try_of) fails.
+    pub fn of(bytes: &[u8]) -> Self {
+        or_panic(Self::try_of(bytes))
     }
 
-    /// Reads the names in these sections, as far as they can be read, up to the first without a
-    /// size within bounds.
-    pub(crate) fn of_sections(sections: &[u8]) -> Result<Self, Error> {
-        let (mut names, mut rest) = (Self::new(), sections);
-        while let Ok(((id, content), behind)) = part_of(rest) {
+    /// Does what [`of`](Self::of) does.
+    ///
+    /// # Errors
+    ///
+    /// [`NoMemory`](Error::NoMemory).
+    pub fn try_of(bytes: &[u8]) -> Result<Self, Error> {
+        let (mut names, mut sections) = (Self::new(), Sections::new(bytes).ok());
+        while let Some((_, RawSection { id, data })) =
+            sections.as_mut().and_then(Sections::next_raw)
+        {
             if id == ComponentSectionId::CoreCustom.into() {
-                unless_bad(names.read_section(content))?;
+                unless_bad(names.read_section(data))?;
             }
-            rest = behind;
         }
         Ok(names)
     }
 
     /// Adds the names of a custom section with this content, if it is a section of debug names.
-    fn read_section(&mut self, content: &[u8]) -> Result<(), NamesFault> {
+    fn read_section(&mut self, content: &[u8]) -> Result<(), ReadError> {
         match text_of(content) {
             Ok((NAMES_LABEL, data)) => self.read_data(data),
             _ => Ok(()),
@@ -103,9 +108,9 @@ impl DebugNames {
     ///
     /// # Errors
     ///
-    /// The first subsection that can't be read, or [`NamesFault::NoMemory`]. The names before it
+    /// The first subsection that can't be read, or [`NoMemory`](crate::Cause::NoMemory). The names before it
     /// are added.
-    pub fn read(&mut self, item: &impl SectionItem) -> Result<(), NamesFault> {
+    pub fn read(&mut self, item: &impl SectionItem) -> Result<(), ReadError> {
         match item.custom() {
             Some((NAMES_LABEL, data)) => self.read_data(data),
             _ => Ok(()),
@@ -113,9 +118,8 @@ impl DebugNames {
     }
 
     /// Adds the names of all subsections.
-    fn read_data(&mut self, data: &[u8]) -> Result<(), NamesFault> {
-        NamesReader::new(data)
-            .try_for_each(|name| self.add(name?).map_err(|_| NamesFault::NoMemory))
+    fn read_data(&mut self, data: &[u8]) -> Result<(), ReadError> {
+        NamesReader::new(data).try_for_each(|name| self.add(name?).map_err(|_| ReadError::memory()))
     }
 
     /// Adds a name to those that were read before it.
@@ -175,10 +179,10 @@ impl Default for DebugNames {
 }
 
 /// Ignores names that can't be read, which are no fault of the component.
-fn unless_bad(read: Result<(), NamesFault>) -> Result<(), Error> {
+fn unless_bad(read: Result<(), ReadError>) -> Result<(), Error> {
     match read {
-        Ok(()) | Err(NamesFault::BadSubsection { .. }) => Ok(()),
-        Err(NamesFault::NoMemory) => Err(Error::NoMemory),
+        Err(error) if error.is_memory() => Err(Error::NoMemory),
+        _ => Ok(()),
     }
 }
 
@@ -205,37 +209,3 @@ impl From<&DebugNames> for ComponentNameSection {
         section
     }
 }
-
-/// Why debug names can't be read.
-///
-/// It doesn't convert into [`Error`](crate::Error), which says what can't be written.
-///
-/// Needs the feature `walk`.
-#[derive(Clone, Copy, Debug, PartialEq, Eq, Hash)]
-#[non_exhaustive]
-pub enum NamesFault {
-    /// An allocation failed.
-    NoMemory,
-    /// A subsection lacks a size within bounds, or its content isn't names.
-    BadSubsection {
-        /// The byte offset of the first such subsection, counted from the end of the section's
-        /// name.
-        place: usize,
-        /// Why, by byte offsets that are counted so, too.
-        cause: Cause,
-    },
-}
-
-impl fmt::Display for NamesFault {
-    #[inline]
-    fn fmt(&self, f: &mut fmt::Formatter<'_>) -> fmt::Result {
-        match self {
-            Self::NoMemory => f.write_str("no memory"),
-            Self::BadSubsection { place, cause } => {
-                write!(f, "bad subsection of names at {place:#x}: {cause}")
-            }
-        }
-    }
-}
-
-impl core::error::Error for NamesFault {}

@@ -31,7 +31,8 @@
 //!
 //! With the feature `walk`, [`Sections`] reads a component section by section, and item by item
 //! into values of [`view`], without allocating; a section can be written again byte for byte
-//! ([`SectionReader`]), and `Sections::out_of_range` finds indices that are out of range. [`scope`]
+//! ([`SectionReader`]), and [`Walk`] enters nested components and finds indices
+//! that are out of range. [`scope`]
 //! has what each index means, through aliases and exports. With the feature `tree`, [`list`] reads
 //! a component into values of [`tree`], from which `tree::build` builds it again, and a section can
 //! be written item by item ([`ItemSection`]). To renumber what was read, `ItemTree::indices_mut`
@@ -96,6 +97,7 @@
 #![cfg_attr(not(feature = "tree"), doc = "[`ItemSection`]: #features")]
 #![cfg_attr(not(feature = "walk"), doc = "[`Sections`]: #features")]
 #![cfg_attr(not(feature = "walk"), doc = "[`SectionReader`]: #features")]
+#![cfg_attr(not(feature = "walk"), doc = "[`Walk`]: #features")]
 #![cfg_attr(not(feature = "walk"), doc = "[`CoreSections`]: #features")]
 #![cfg_attr(not(feature = "walk"), doc = "[`DebugNames`]: #features")]
 #![cfg_attr(not(feature = "walk"), doc = "[`ProducersReader`]: #features")]
@@ -135,12 +137,14 @@ mod encode;
 mod encoders;
 mod eq_by_bytes;
 mod error;
-#[cfg(feature = "walk")]
+#[cfg(feature = "tree")]
 mod list;
 #[cfg(feature = "walk")]
 mod producers;
 mod proved;
 mod raw;
+#[cfg(feature = "walk")]
+mod read_error;
 #[cfg(feature = "walk")]
 mod rewrite;
 #[cfg(feature = "walk")]
@@ -161,22 +165,20 @@ pub use component::*;
 #[cfg(feature = "walk")]
 pub use core_items::{CoreItem, CoreItems};
 #[cfg(feature = "walk")]
-pub use core_sections::{CoreSection, CoreSections, ModuleFault};
-#[cfg(feature = "tree")]
-pub use cursor::Trees;
+pub use core_sections::{CoreSection, CoreSections};
 #[cfg(feature = "walk")]
-pub use cursor::{Items, NestedSections, OutOfRange, SectionReader, Sections};
+pub use cursor::{Item, Items, OutOfRange, SectionReader, Sections, Step, Unread, Walk};
 #[cfg(feature = "walk")]
-pub use debug_names::{DebugName, DebugNames, NamesFault, NamesReader};
+pub use debug_names::{DebugName, DebugNames, NamesReader};
 pub use encode::{Encode, encoding_size};
 pub use error::{Error, Unsupported};
-#[cfg(feature = "walk")]
-pub use list::{Bytes, Cause, Found, ListFault, Unread};
 #[cfg(feature = "tree")]
 pub use list::{ListedSection, Listing, list};
 #[cfg(feature = "walk")]
-pub use producers::{Producer, ProducersFault, ProducersReader};
+pub use producers::{Producer, ProducersReader};
 pub use raw::RawSection;
+#[cfg(feature = "walk")]
+pub use read_error::{Bytes, Cause, First, Format, Found, Part, ReadError};
 #[cfg(feature = "tree")]
 pub use rewrite::ItemSection;
 #[cfg(feature = "walk")]

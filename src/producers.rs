@@ -1,6 +1,6 @@
 //! Reading a producers section.
 
-use crate::Cause;
+use crate::ReadError;
 use crate::proved::wenc_list::{ProducersPart, ProducersParts};
 use crate::proved::wenc_read::Refusal;
 use core::fmt;
@@ -32,15 +32,15 @@ pub struct Producer<'a> {
 ///
 /// let component =
 ///     b"\0asm\x0d\0\x01\0\x00\x1f\x09producers\x01\x08language\x01\x04Rust\x042024";
-/// let (_, item) = Sections::new(component)?.items().next().expect("an item")?;
-/// let ItemView::Custom { name: ProducersReader::SECTION, data } = item else {
+/// let item = Sections::new(component)?.items().next().expect("an item")?;
+/// let ItemView::Custom { name: ProducersReader::SECTION, data } = item.view else {
 ///     panic!("they are producers")
 /// };
 /// let mut tools = ProducersReader::new(data);
 /// let rust = Producer { field: "language", name: "Rust", version: "2024" };
 /// assert_eq!(tools.next(), Some(Ok(rust)));
 /// assert_eq!(tools.next(), None);
-/// # Ok::<(), wenc::ListFault>(())
+/// # Ok::<(), wenc::ReadError>(())
 /// ```
 #[derive(Clone)]
 pub struct ProducersReader<'a> {
@@ -64,14 +64,14 @@ impl<'a> ProducersReader<'a> {
 
 /// # Errors
 ///
-/// [`ProducersFault`] if a field or a tool can't be read, or if bytes follow the last one.
+/// [`ReadError`] if a field or a tool can't be read, or if bytes follow the last one.
 impl<'a> Iterator for ProducersReader<'a> {
-    type Item = Result<Producer<'a>, ProducersFault>;
+    type Item = Result<Producer<'a>, ReadError>;
 
     fn next(&mut self) -> Option<Self::Item> {
         let mut parts = match self.parts.take()? {
             Ok(parts) => parts,
-            Err(refusal) => return Some(Err(ProducersFault::new(self.data, 0, refusal))),
+            Err(refusal) => return Some(Err(ReadError::of_producers(self.data, 0, refusal))),
         };
         loop {
             match parts.next() {
@@ -83,7 +83,7 @@ impl<'a> Iterator for ProducersReader<'a> {
                 Ok(None) => return None,
                 Err(refusal) => {
                     let place = self.data.len() - parts.rest.len();
-                    return Some(Err(ProducersFault::new(self.data, place, refusal)));
+                    return Some(Err(ReadError::of_producers(self.data, place, refusal)));
                 }
             }
         }
@@ -105,32 +105,3 @@ impl fmt::Debug for ProducersReader<'_> {
         f.debug_struct("ProducersReader").field("field", &self.field).finish_non_exhaustive()
     }
 }
-
-/// Why producers can't be read.
-///
-/// It doesn't convert into [`Error`](crate::Error), which says what can't be written.
-///
-/// Needs the feature `walk`.
-#[derive(Clone, Copy, Debug, PartialEq, Eq, Hash)]
-pub struct ProducersFault {
-    /// The byte offset of the first field or tool that can't be read, or of the bytes after the
-    /// last one, counted from the end of the section's name.
-    pub place: usize,
-    /// Why, by byte offsets that are counted so, too.
-    pub cause: Cause,
-}
-
-impl ProducersFault {
-    fn new(data: &[u8], place: usize, refusal: Refusal) -> Self {
-        Self { place, cause: Cause::new(data, data.len(), refusal) }
-    }
-}
-
-impl fmt::Display for ProducersFault {
-    #[inline]
-    fn fmt(&self, f: &mut fmt::Formatter<'_>) -> fmt::Result {
-        write!(f, "bad producers at {:#x}: {}", self.place, self.cause)
-    }
-}
-
-impl core::error::Error for ProducersFault {}

@@ -10,14 +10,13 @@
 //! Types that were read are at most 100 deep. A tree that a program makes may be deeper. Copying,
 //! comparing, encoding, printing or dropping it, and visiting its indices, take stack for each
 //! nested type: 1,000 fit in 8 MiB, also in code that isn't optimized. In optimized code, each
-//! takes up to 2 kB if a [`Node`] is printed, and otherwise up to 700 bytes. A tree that is too
-//! deep for the stack ends the process.
+//! takes up to 700 bytes. A tree that is too deep for the stack ends the process.
 //!
 //! Core types are those of WebAssembly 3.0, `CoreValType` and others. They convert to the types of
 //! sections with `From`, and from these with `TryFrom`, which fails for what proposals add.
 //!
-//! An item's [`Node`] has its fields with their names, without a type for each kind of value. Owned
-//! and borrowed items have the same nodes.
+//! A borrowed item's [`Node`] has its fields with their names, without a type for each kind of
+//! value.
 //!
 //! A builder takes a [`Command`] ([`ComponentBuilder::command`](crate::ComponentBuilder::command)),
 //! a section an [`ItemTree`] ([`ItemSection`](crate::ItemSection)), an encoder the tree of a type.
@@ -75,9 +74,9 @@ pub use crate::shim::boxed::Box;
 #[cfg(feature = "tree")]
 pub use build::{Built, build};
 pub use fields::{IndexCounts, Scopes};
-pub use indices::Scope;
 #[cfg(feature = "tree")]
-pub use indices::{IndexUse, OuterFault};
+pub use indices::IndexUse;
+pub use indices::Scope;
 pub(crate) use indices::{defined_in_module, space_of};
 pub use node::{Child, Fields, List, Node, UsedIndex};
 // The types of the same names in the crate's root include what proposals add.

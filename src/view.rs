@@ -23,19 +23,19 @@
 //!
 //! ```
 //! use wenc::view::{ItemView, TypeView};
-//! use wenc::{ListFault, PrimitiveValType, Sections};
+//! use wenc::{ReadError, PrimitiveValType, Sections};
 //!
 //! // the type of a function with a parameter
 //! let component = b"\0asm\x0d\0\x01\0\x07\x08\x01\x40\x01\x01n\x79\x01\0";
-//! let (range, item) = Sections::new(component)?.items().next().expect("an item")?;
-//! let ItemView::Type(TypeView::Func { params, result: None, .. }) = item else {
+//! let item = Sections::new(component)?.items().next().expect("an item")?;
+//! let ItemView::Type(TypeView::Func { params, result: None, .. }) = item.view else {
 //!     panic!("it is the type of a function")
 //! };
-//! assert_eq!((range, params.len()), (11..18, 1));
+//! assert_eq!((item.range, params.len()), (11..18, 1));
 //! for (name, ty) in params {
 //!     assert_eq!((name, ty), ("n", PrimitiveValType::U32.into()));
 //! }
-//! # Ok::<(), ListFault>(())
+//! # Ok::<(), ReadError>(())
 //! ```
 
 use crate::ComponentExternName;

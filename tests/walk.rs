@@ -5,7 +5,8 @@ use wenc::tree::{Scope, Space, UsedIndex};
 use wenc::view::{ItemView, TypeView};
 use wenc::{
     Cause, Component, ComponentNameSection, ComponentSectionId, ComponentTypeRef, CoreItem,
-    CoreSections, ListFault, OutOfRange, Producer, ProducersReader, Sections, Unread,
+    CoreSections, DebugNames, OutOfRange, Part, Producer, ProducersReader, ReadError, Sections,
+    Walk,
 };
 
 /// The type of a function, an import of a function of that type, and debug names of the component
@@ -14,12 +15,12 @@ const COMPONENT: &[u8] = b"\0asm\x0d\0\x01\0\x07\x05\x01\x40\0\x01\0\x0a\x06\x01
     \0\x1a\x0ecomponent-name\0\x02\x01c\x01\x05\x01\x01\0\x01g";
 
 #[test]
-fn items_are_borrowed() -> Result<(), ListFault> {
+fn items_are_borrowed() -> Result<(), ReadError> {
     let items: Result<Vec<_>, _> = Sections::new(COMPONENT)?.items().collect();
-    let [(ty, func), (import, imported), (names, custom)] = &items?[..] else {
-        panic!("three items")
-    };
-    assert_eq!((ty, import, names), (&(11..15), &(18..23), &(25..51)));
+    let items = items?;
+    let [func, imported, custom] = [0, 1, 2].map(|at| &items[at].view);
+    let ranges: Vec<_> = items.iter().map(|item| item.range.clone()).collect();
+    assert_eq!(ranges, [11..15, 18..23, 25..51]);
     let ItemView::Type(TypeView::Func { is_async: false, params, result: None }) = func else {
         panic!("{func:?}")
     };
@@ -33,8 +34,8 @@ fn items_are_borrowed() -> Result<(), ListFault> {
 }
 
 #[test]
-fn names_are_read_and_written() -> Result<(), ListFault> {
-    let mut names = Sections::new(COMPONENT)?.names();
+fn names_are_read_and_written() -> Result<(), ReadError> {
+    let mut names = DebugNames::of(COMPONENT);
     assert_eq!((names.component(), names.get(Space::Funcs, 0)), (Some("c"), Some("g")));
     names.insert(Space::Types, 0, "t");
     let section = ComponentNameSection::from(&names);
@@ -46,7 +47,7 @@ fn names_are_read_and_written() -> Result<(), ListFault> {
 }
 
 #[test]
-fn sections_are_copied() -> Result<(), ListFault> {
+fn sections_are_copied() -> Result<(), ReadError> {
     let mut component = Component::new();
     for section in Sections::new(COMPONENT)? {
         let section = section?;
@@ -59,33 +60,33 @@ fn sections_are_copied() -> Result<(), ListFault> {
 }
 
 #[test]
-fn indices_are_found() -> Result<(), ListFault> {
+fn indices_are_found() -> Result<(), ReadError> {
     let sections = Sections::new(COMPONENT)?;
-    assert_eq!((sections.index_count(Space::Types)?, sections.index_count(Space::Funcs)?), (1, 1));
+    let mut walk = Walk::new(COMPONENT, 0)?;
+    assert_eq!(walk.by_ref().count(), 6);
+    assert_eq!([Space::Types, Space::Funcs].map(|space| walk.counts().of(space)), [1, 1]);
     let (space, scope) = (Space::Types, Scope::Component(0));
     let mut used = Vec::new();
     for item in sections.items() {
-        item?.1.node().each_index(|index| used.push(index));
+        item?.view.node().each_index(|index| used.push(index));
     }
     assert_eq!(used, [UsedIndex { space, scope, index: 0, count: None }]);
-    assert!(sections.out_of_range(100).next().is_none());
+    assert!(Walk::new(COMPONENT, 100)?.out_of_range().next().is_none());
 
     let mut damaged = COMPONENT.to_vec();
     damaged[22] = 7;
-    let found: Result<Vec<_>, _> = Sections::new(&damaged)?.out_of_range(100).collect();
+    let found: Result<Vec<_>, _> = Walk::new(&damaged, 100)?.out_of_range().collect();
     assert_eq!(found?, [OutOfRange { place: 18, space, scope, index: 7, count: 1 }]);
     Ok(())
 }
 
 #[test]
-fn faults_say_what_is_missing() -> Result<(), ListFault> {
+fn faults_say_what_is_missing() -> Result<(), ReadError> {
     let mut damaged = COMPONENT.to_vec();
     damaged[17] = 2;
-    let fault = Sections::new(&damaged)?.items().find_map(Result::err);
-    let (section, unread) = (ComponentSectionId::Import, Unread::Item { number: 1, place: 23 });
-    let cause = Cause::Few { place: 23, needed: 1, len: 0 };
-    let (unread, cause) = (Some(unread), Some(cause));
-    assert_eq!(fault, Some(ListFault::BadItem { place: 15, section, unread, cause }));
+    let error = Sections::new(&damaged)?.items().find_map(Result::err).expect("one is missing");
+    assert_eq!((error.section, error.part, error.offset), (15, Part::Item(1), 23));
+    assert_eq!(error.cause, Cause::Few { place: 23, needed: 1, len: 0 });
     Ok(())
 }
 

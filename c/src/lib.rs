@@ -30,7 +30,7 @@ use core::ffi::CStr;
 use core::ptr;
 use last_error::LastError;
 use session::Session;
-use wenc::{Error, ListFault, NamesFault};
+use wenc::{Cause, Error, Format, Part, ReadError};
 
 /// `enum wenc_status`: why a call failed, or `Done`.
 #[derive(Clone, Copy, Debug, PartialEq, Eq)]
@@ -106,21 +106,16 @@ impl From<TryReserveError> for Status {
     }
 }
 
-impl From<ListFault> for Status {
-    fn from(fault: ListFault) -> Self {
-        match fault {
-            ListFault::NoMemory => Self::NoMemory,
-            ListFault::NotAComponent { .. } => Self::NotAComponent,
-            ListFault::BadSection { .. } => Self::BadSection,
-            ListFault::TooDeep { .. } => Self::TooDeep,
+impl From<ReadError> for Status {
+    fn from(error: ReadError) -> Self {
+        match (error.format, error.part, error.cause) {
+            _ if error.is_memory() => Self::NoMemory,
+            (Format::Names | Format::Producers, ..) => Self::Malformed,
+            (_, Part::Header, _) => Self::NotAComponent,
+            (_, Part::Section, _) => Self::BadSection,
+            (_, _, Cause::Deep { .. }) | (_, Part::Depth, _) => Self::TooDeep,
             _ => Self::BadItem,
         }
-    }
-}
-
-impl From<NamesFault> for Status {
-    fn from(_: NamesFault) -> Self {
-        Self::Malformed
     }
 }
 

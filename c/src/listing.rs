@@ -11,8 +11,8 @@ use core::ops::Range;
 use wenc::tree::{IndexCounts, Space};
 use wenc::view::ItemView;
 use wenc::{
-    Cause, ComponentSectionId, DebugNames, Items, ListFault, NamesFault, NamesReader,
-    ProducersFault, ProducersReader, SectionReader, Sections, Unread,
+    Cause, ComponentSectionId, DebugNames, Error, Items, NamesReader, Part, ProducersReader,
+    ReadError, Sections, Step, Walk,
 };
 
 /// A component that was read.
@@ -40,26 +40,35 @@ struct Item {
 
 impl Listed {
     /// Reads a component.
-    fn read(bytes: &[u8]) -> Result<Self, ListFault> {
+    fn read(bytes: &[u8]) -> Result<Self, ReadError> {
         let (sections, items, counts) = (Vec::new(), Vec::new(), IndexCounts::default());
         let mut listed = Self { bytes: Vec::new(), sections, items, counts };
-        for section in Sections::new(bytes)? {
-            listed.read_section(section?)?;
+        let mut walk = Walk::new(bytes, 1)?;
+        while let Some(step) = walk.next() {
+            match step {
+                Step::Section(section) => {
+                    let (row, before) = (SectionRow::new(&section), listed.items.len());
+                    push(&mut listed.sections, Section { row, before })?;
+                }
+                Step::Item(item) => listed.add(&item, walk.counts())?,
+                Step::Enter(item) => {
+                    listed.add(&item, walk.counts())?;
+                    // it is listed as bytes
+                    walk.go_to(usize::MAX);
+                }
+                Step::Unread(unread) if walk.depth() == 0 => return Err(unread.error),
+                _ => {}
+            }
         }
-        listed.bytes = copied(bytes).map_err(|_| ListFault::NoMemory)?;
+        listed.counts = *walk.counts();
+        listed.bytes = copied(bytes).map_err(|_| Error::NoMemory)?;
         Ok(listed)
     }
 
-    fn read_section(&mut self, section: SectionReader<'_>) -> Result<(), ListFault> {
-        let (row, before) = (SectionRow::new(&section), self.items.len());
-        push(&mut self.sections, Section { row, before })?;
-        for item in section.items() {
-            let (range, item) = item?;
-            let index = item.defined_indices().map_or(0, |(space, _)| self.counts.of(space));
-            self.counts.add(&item);
-            push(&mut self.items, Item { place: range.start, index })?;
-        }
-        Ok(())
+    /// Adds an item of a component that defines this many indices before it.
+    fn add(&mut self, item: &wenc::Item<'_>, counts: &IndexCounts) -> Result<(), ReadError> {
+        let index = item.view.defined_indices().map_or(0, |(space, _)| counts.of(space));
+        push(&mut self.items, Item { place: item.range.start, index })
     }
 
     /// Returns the number of sections.
@@ -88,8 +97,8 @@ impl Listed {
         // 32 bits: the section ends where the component does, or before.
         let range = place..row.place + row.len;
         let items = Items::at(&self.bytes, row.id as u8, range, 1);
-        let (range, item) = items.and_then(|mut items| items.next()).ok_or(Status::BadItem)??;
-        Ok((index, range, item))
+        let item = items.and_then(|mut items| items.next()).ok_or(Status::BadItem)??;
+        Ok((index, item.range, item.view))
     }
 
     fn row(&self, section: usize, number: usize) -> Result<ItemRow> {
@@ -99,8 +108,8 @@ impl Listed {
     }
 }
 
-fn push<T>(values: &mut Vec<T>, value: T) -> Result<(), ListFault> {
-    values.try_reserve(1).map_err(|_| ListFault::NoMemory)?;
+fn push<T>(values: &mut Vec<T>, value: T) -> Result<(), ReadError> {
+    values.try_reserve(1).map_err(|_| Error::NoMemory)?;
     values.push(value);
     Ok(())
 }
@@ -136,33 +145,26 @@ pub unsafe extern "C" fn wenc_list(
 }
 
 /// Returns the part of a component that can't be read.
-fn unread_part(fault: ListFault) -> UnreadPart {
-    let (section, unread, cause) = match fault {
-        ListFault::NotAComponent { place, .. } => (place, None, None),
-        ListFault::BadSection { place, cause } => (place, None, cause),
-        ListFault::BadItem { place, unread, cause, .. }
-        | ListFault::TooDeep { place, unread, cause } => (place, unread, cause),
-        _ => (0, None, None),
-    };
-    let (part, item, place) = match unread {
-        None => (0, 0, section),
-        Some(Unread::Count { place }) => (1, 0, place),
-        Some(Unread::Item { number, place }) => (2, number, place),
-        Some(Unread::Behind { place }) => (3, 0, place),
+fn unread_part(error: ReadError) -> UnreadPart {
+    let (section, offset) = (error.section, error.offset);
+    let (part, item, place) = match error.part {
+        Part::Count => (1, 0, offset),
+        Part::Item(number) => (2, number, offset),
+        Part::Rest => (3, 0, offset),
+        _ => (0, 0, section),
     };
     let mut expected = [0; 32];
-    if let Some(Cause::Byte { expected: bytes, .. }) = cause {
+    if let Cause::Byte { expected: bytes, .. } = error.cause {
         bytes
             .ranges()
             .flatten()
             .for_each(|byte| expected[usize::from(byte / 8)] |= 1 << (byte % 8));
     }
-    let cause = cause.map_or(place, |cause| cause.place());
-    UnreadPart { section, place, part, item, cause, expected }
+    UnreadPart { section, place, part, item, cause: error.place(), expected }
 }
 
 /// Returns why the section at this byte offset of a component can't be read.
-fn fault_at(bytes: &[u8], section: usize) -> Option<ListFault> {
+fn fault_at(bytes: &[u8], section: usize) -> Option<ReadError> {
     if section == 0 {
         return Sections::new(bytes).err();
     }
@@ -228,27 +230,17 @@ fn write_item_fault(
     bytes: &[u8],
 ) -> Option<fmt::Result> {
     let mut items = Items::at(bytes, section, 0..bytes.len(), 1)?;
-    let (name, data) = match (items.next()?, items.next()) {
-        (Err(fault), _) | (_, Some(Err(fault))) => return Some(write!(to, "{fault}")),
-        (Ok((_, ItemView::Custom { name, data })), _) => (name, data),
+    let (name, data) = match (items.next()?.map(|item| item.view), items.next()) {
+        (Err(error), _) | (_, Some(Err(error))) => return Some(write!(to, "{error}")),
+        (Ok(ItemView::Custom { name, data }), _) => (name, data),
         _ => return None,
     };
-    let start = bytes.len() - data.len();
-    Some(match name {
-        DebugNames::SECTION => match NamesReader::new(data).find_map(Result::err)? {
-            NamesFault::BadSubsection { place, cause } => {
-                let (place, cause) = (start.saturating_add(place), cause.moved(start));
-                write!(to, "{}", NamesFault::BadSubsection { place, cause })
-            }
-            fault => write!(to, "{fault}"),
-        },
-        ProducersReader::SECTION => {
-            let fault = ProducersReader::new(data).find_map(Result::err)?;
-            let (place, cause) = (start.saturating_add(fault.place), fault.cause.moved(start));
-            write!(to, "{}", ProducersFault { place, cause })
-        }
+    let error = match name {
+        DebugNames::SECTION => NamesReader::new(data).find_map(Result::err)?,
+        ProducersReader::SECTION => ProducersReader::new(data).find_map(Result::err)?,
         _ => return None,
-    })
+    };
+    Some(write!(to, "{}", error.moved(bytes.len() - data.len())))
 }
 
 #[unsafe(no_mangle)]
@@ -320,8 +312,8 @@ fn add(session: &mut Session, debug_name: Option<&str>, item: &ItemView<'_>) -> 
 pub(crate) fn read_item(section: ComponentSectionId, bytes: &[u8]) -> Result<ItemView<'_>, Status> {
     let mut items = Items::at(bytes, section, 0..bytes.len(), 1).ok_or(Status::Malformed)?;
     match (items.next(), items.next()) {
-        (Some(Ok((_, item))), None) => Ok(item),
-        (Some(Err(ListFault::TooDeep { .. })), _) => Err(Status::TooDeep),
+        (Some(Ok(item)), None) => Ok(item.view),
+        (Some(Err(error)), _) if Status::from(error) == Status::TooDeep => Err(Status::TooDeep),
         _ => Err(Status::Malformed),
     }
 }

@@ -115,9 +115,9 @@ pub unsafe extern "C" fn wenc_walk_skip(walk: *mut Walk, section: *mut SectionRo
 pub unsafe extern "C" fn wenc_walk_item(walk: *mut Walk, item: *mut ItemRow) -> Status {
     let next = |walk: &mut Walk| {
         let mut items = unsafe { walk.items() }?;
-        let (range, item) = items.next().ok_or(Status::End)??;
-        (walk.next_item, walk.items) = (range.end, walk.items - 1);
-        Ok(ItemRow::new(walk.id, range, item))
+        let item = items.next().ok_or(Status::End)??;
+        (walk.next_item, walk.items) = (item.range.end, walk.items - 1);
+        Ok(ItemRow::new(walk.id, item.range, item.view))
     };
     unsafe { moved(walk, item, next) }
 }

@@ -3,22 +3,27 @@
 use crate::proved::wenc_list as proved;
 use crate::proved::wenc_read::NestedRefusal;
 use crate::view::ItemView;
-use crate::{ComponentSectionId, ListFault};
+use crate::{ComponentSectionId, ReadError};
 use core::fmt;
 use core::iter::FusedIterator;
 use core::ops::Range;
 
-#[cfg(feature = "tree")]
-pub use trees::Trees;
-
-#[cfg(feature = "tree")]
-mod trees;
-
-/// An iterator over the items of a section, each with its byte offsets in the component. It ends
-/// after an error. The items borrow from the component's bytes, and nothing is allocated.
+/// An item of a component.
 ///
 /// Needs the feature `walk`.
-#[derive(Clone, Copy)]
+#[derive(Clone, Debug, PartialEq, Eq, Hash)]
+#[non_exhaustive]
+pub struct Item<'a> {
+    /// Its byte offsets in the outermost component.
+    pub range: Range<usize>,
+    /// What it is, borrowed from the component's bytes.
+    pub view: ItemView<'a>,
+}
+
+/// An iterator over the items of a section. It ends after an error. The items borrow from the component's bytes, and nothing is allocated.
+///
+/// Needs the feature `walk`.
+#[derive(Clone)]
 pub struct Items<'a> {
     bytes: &'a [u8],
     /// The items that are left; `None` after an error.
@@ -43,23 +48,23 @@ impl<'a> Items<'a> {
     ///
     /// ```
     /// use wenc::view::ItemView;
-    /// use wenc::{ComponentSectionId, Items, ListFault, Sections};
+    /// use wenc::{ComponentSectionId, Items, ReadError, Sections};
     ///
     /// // imports of two resources
     /// let component = b"\0asm\x0d\0\x01\0\x0a\x0b\x02\0\x01f\x03\x01\0\x01g\x03\x01";
     /// let mut items = Sections::new(component)?.next().expect("a section")?.items();
-    /// let (first, _) = items.next().expect("an item")?;
+    /// let first = items.next().expect("an item")?.range;
     /// let (bytes, count) = items.left().expect("no error");
     /// assert_eq!((&bytes, count), (&(first.end..21), 1));
     ///
     /// let mut items = Items::at(component, ComponentSectionId::Import, bytes, count).unwrap();
-    /// let (_, ItemView::Import { name, .. }) = items.next().expect("an item")? else {
+    /// let ItemView::Import { name, .. } = items.next().expect("an item")?.view else {
     ///     panic!("it is an import")
     /// };
     /// assert_eq!(name.name, "g");
     /// assert_eq!(items.left(), Some((21..21, 0)));
     /// assert!(Items::at(component, ComponentSectionId::Import, 21..22, 1).is_none());
-    /// # Ok::<(), ListFault>(())
+    /// # Ok::<(), ReadError>(())
     /// ```
     pub fn at(bytes: &'a [u8], id: impl Into<u8>, range: Range<usize>, count: u32) -> Option<Self> {
         let (id, rest) = (id.into(), bytes.get(range.clone())?);
@@ -83,29 +88,34 @@ impl<'a> Items<'a> {
         self.left.map(|left| (left.reached()..left.ends, left.left))
     }
 
+    /// Returns the byte offset of the section.
+    pub(super) fn section(&self) -> usize {
+        self.left.map_or(0, |left| left.place)
+    }
+
     /// Returns the fault, after which there are no items.
     #[cold]
     #[inline(never)]
-    fn refused(&mut self, left: proved::SectionItems<'a>, refusal: NestedRefusal) -> ListFault {
+    fn refused(&mut self, left: proved::SectionItems<'a>, refusal: NestedRefusal) -> ReadError {
         self.left = None;
-        ListFault::of_item(self.bytes, self.count, left, refusal)
+        ReadError::of_item(self.bytes, self.count, left, refusal)
     }
 }
 
 /// # Errors
 ///
-/// [`ListFault::BadItem`] if an item can't be read or bytes follow the last one, and
-/// [`ListFault::TooDeep`], both with the byte offsets of the section and of the item; or
-/// [`ListFault::BadSection`] for a custom section without a name.
+/// [`Part::Item`](crate::Part::Item) if an item can't be read, [`Part::Rest`](crate::Part::Rest) if
+/// bytes follow the last one, and [`Part::Section`](crate::Part::Section) for a custom section
+/// without a name.
 impl<'a> Iterator for Items<'a> {
-    type Item = Result<(Range<usize>, ItemView<'a>), ListFault>;
+    type Item = Result<Item<'a>, ReadError>;
 
     #[inline(always)]
     fn next(&mut self) -> Option<Self::Item> {
         let left = self.left.as_mut()?;
         let place = left.reached();
         match left.next_or_refusal() {
-            Ok(Some(item)) => Some(Ok((place..left.reached(), item))),
+            Ok(Some(view)) => Some(Ok(Item { range: place..left.reached(), view })),
             Ok(None) => None,
             Err(refusal) => {
                 let left = *left;

@@ -1,15 +1,14 @@
 //! The indices in a component that its index spaces don't have.
 
-use super::NestedSections;
-use super::steps::{Step, Steps};
-use crate::ListFault;
+use super::{Step, Walk};
+use crate::ReadError;
 use crate::shim::vec::VecUsing;
-use crate::tree::{IndexCounts, Scope, Scopes, Space, UsedIndex};
-use crate::view::ItemView;
+use crate::tree::{Scope, Space, UsedIndex};
 use alloc::vec::Vec;
+use core::iter::{self, FusedIterator};
 
 /// An index that its space doesn't have before the item that contains it, as
-/// [`Sections::out_of_range`](crate::Sections::out_of_range) finds it.
+/// [`Walk::out_of_range`] finds it.
 ///
 /// Needs the feature `walk`.
 #[derive(Clone, Copy, Debug, PartialEq, Eq)]
@@ -27,63 +26,62 @@ pub struct OutOfRange {
     pub count: u64,
 }
 
-/// Finds the indices in a component that are out of range.
-pub(super) struct Finder<'a> {
-    steps: Steps<'a>,
-    /// The index counts of the components around the next item, the outermost first.
-    counts: Vec<IndexCounts>,
-    /// The indices that were found in the last item, the first of them last.
-    found: Vec<OutOfRange>,
-}
-
-impl<'a> Finder<'a> {
-    pub(super) fn new(sections: NestedSections<'a>) -> Self {
-        Self { steps: Steps::new(sections), counts: Vec::new(), found: Vec::new() }
-    }
-
-    fn enter(&mut self) -> Result<(), ListFault> {
-        self.counts.push_using(IndexCounts::default()).map_err(|_| ListFault::NoMemory)
-    }
-
-    fn define(&mut self, item: &ItemView<'_>) {
-        if let Some(counts) = self.counts.last_mut() {
-            counts.add(item);
-        }
-    }
-
-    /// Finds the indices of an item at this byte offset.
-    fn find_in(&mut self, place: usize, item: &ItemView<'_>) -> Result<(), ListFault> {
-        let scopes = Scopes::new(&self.counts);
-        item.node_in(&scopes).try_each_index(|UsedIndex { space, scope, index, count }| {
-            let Some(count) = count else { return Ok(()) };
-            let found = OutOfRange { place, space, scope, index, count };
-            self.found.push_using(found).map_err(|_| ListFault::NoMemory)
-        })?;
-        self.found.reverse();
-        self.define(item);
-        Ok(())
-    }
-
-    /// Returns the next index that is out of range.
-    pub(super) fn find(&mut self) -> Result<Option<OutOfRange>, ListFault> {
-        loop {
-            if let Some(found) = self.found.pop() {
-                return Ok(Some(found));
-            }
-            let Some(step) = self.steps.next()? else { return Ok(None) };
-            if self.counts.is_empty() {
-                self.enter()?;
-            }
-            match step {
-                Step::Enter(..) => self.enter()?,
-                // a nested component is defined where it ends
-                Step::Leave => {
-                    self.counts.pop();
-                    self.define(&ItemView::Component(&[]));
+impl<'a> Walk<'a> {
+    /// Returns the indices that are out of range: those that aren't less than the number of indices
+    /// that their space has before the item, in the component or the type that the index belongs to
+    /// (component model, explainer, "Index Spaces"). An outer alias out of the outermost component
+    /// is out of range.
+    ///
+    /// Each comes with the byte offset of its item. A valid component has none; nothing else is
+    /// checked. A recursion group defines an index for each of its types, to which they may refer.
+    ///
+    /// The iterator ends after an error: that of the first part that isn't read, or
+    /// [`NoMemory`](crate::Cause::NoMemory), as it allocates for the indices of one item that are
+    /// out of range.
+    ///
+    /// ```
+    /// use wenc::tree::{Scope, Space};
+    /// use wenc::{OutOfRange, ReadError, Walk};
+    ///
+    /// // the type of a function, and an import of a function of that type
+    /// let mut component = *b"\0asm\x0d\0\x01\0\x07\x05\x01\x40\0\x01\0\x0a\x06\x01\0\x01f\x01\0";
+    /// assert!(Walk::new(&component, 100)?.out_of_range().next().is_none());
+    ///
+    /// // the same with the index 99
+    /// component[22] = 99;
+    /// let found: Result<Vec<_>, _> = Walk::new(&component, 100)?.out_of_range().collect();
+    /// let (space, scope) = (Space::Types, Scope::Component(0));
+    /// assert_eq!(found?, [OutOfRange { place: 18, space, scope, index: 99, count: 1 }]);
+    /// # Ok::<(), ReadError>(())
+    /// ```
+    pub fn out_of_range(mut self) -> impl FusedIterator<Item = Result<OutOfRange, ReadError>> + 'a {
+        // those of the last item, the first of them last
+        let mut found: Vec<OutOfRange> = Vec::new();
+        iter::from_fn(move || {
+            loop {
+                if let Some(found) = found.pop() {
+                    return Some(Ok(found));
                 }
-                Step::Item { place, item, .. } => self.find_in(place, &item)?,
-                Step::Unread { fault, .. } => return Err(fault),
+                let read = match self.next()? {
+                    Step::Item(item) => {
+                        let place = item.range.start;
+                        item.view.node_in(&self.scopes()).try_each_index(|used| {
+                            let UsedIndex { space, scope, index, count } = used;
+                            let Some(count) = count else { return Ok(()) };
+                            let one = OutOfRange { place, space, scope, index, count };
+                            found.push_using(one).map_err(|_| ReadError::memory())
+                        })
+                    }
+                    Step::Unread(unread) => Err(unread.error),
+                    _ => Ok(()),
+                };
+                if let Err(error) = read {
+                    found.clear();
+                    return Some(Err(self.end(error)));
+                }
+                found.reverse();
             }
-        }
+        })
+        .fuse()
     }
 }

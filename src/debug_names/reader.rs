@@ -1,10 +1,9 @@
 //! Reading debug names one by one.
 
-use super::NamesFault;
-use crate::Cause;
 use crate::cursor::parts_in;
 use crate::proved::wenc_list::{ItemName, Names, names_in, part_of};
 use crate::proved::wenc_view::View;
+use crate::read_error::{Cause, Format, ReadError};
 use crate::tree::Space;
 use core::iter::FusedIterator;
 
@@ -30,17 +29,18 @@ pub struct DebugName<'a> {
 ///
 /// ```
 /// use wenc::tree::Space;
-/// use wenc::{Cause, DebugName, NamesFault, NamesReader};
+/// use wenc::{Cause, DebugName, NamesReader};
 ///
 /// // the names of the component and of a function, and a subsection without a size
 /// let mut names = NamesReader::new(b"\0\x02\x01c\x01\x05\x01\x01\0\x01g\x02");
 /// assert_eq!(names.next(), Some(Ok(DebugName { item: None, name: "c" })));
 /// assert_eq!(names.next(), Some(Ok(DebugName { item: Some((Space::Funcs, 0)), name: "g" })));
 /// let cause = Cause::Few { place: 12, needed: 1, len: 0 };
-/// assert_eq!(names.next(), Some(Err(NamesFault::BadSubsection { place: 11, cause })));
+/// let error = names.next().unwrap().unwrap_err();
+/// assert_eq!((error.offset, error.cause), (11, cause));
 /// assert_eq!(names.next(), None);
 /// ```
-#[derive(Clone, Copy, Debug)]
+#[derive(Clone, Debug)]
 pub struct NamesReader<'a> {
     data: &'a [u8],
     /// The bytes that are left; `None` after an error.
@@ -81,7 +81,7 @@ impl<'a> NamesReader<'a> {
     /// let mut names = NamesReader::at(data, place, within).expect("it is within");
     /// assert_eq!(names.next().expect("a name")?.name, "g");
     /// assert_eq!(names.left(), Some((10, None)));
-    /// # Ok::<(), wenc::NamesFault>(())
+    /// # Ok::<(), wenc::ReadError>(())
     /// ```
     pub fn left(&self) -> Option<(usize, Option<(Space, u32)>)> {
         Some((self.data.len() - self.rest?.len(), self.within))
@@ -126,9 +126,9 @@ impl<'a> NamesReader<'a> {
 
 /// # Errors
 ///
-/// [`NamesFault::BadSubsection`] if a subsection can't be read, before any of its names.
+/// [`ReadError`] if a subsection can't be read, before any of its names.
 impl<'a> Iterator for NamesReader<'a> {
-    type Item = Result<DebugName<'a>, NamesFault>;
+    type Item = Result<DebugName<'a>, ReadError>;
 
     fn next(&mut self) -> Option<Self::Item> {
         let mut rest = self.rest.take()?;
@@ -139,7 +139,8 @@ impl<'a> Iterator for NamesReader<'a> {
             }
             Err(cause) => {
                 let place = self.data.len() - rest.len();
-                Some(Err(NamesFault::BadSubsection { place, cause }))
+                let places = (place, self.data.len());
+                Some(Err(ReadError::frame(Format::Names, self.data, places, cause)))
             }
         }
     }

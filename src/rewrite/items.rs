@@ -58,11 +58,12 @@ impl ComponentSection for ListedSection {
 /// let section = Sections::new(bytes)?.next().expect("a section")?;
 /// let mut imports = ItemSection::new(section.id());
 /// for item in section.items() {
-///     match item? {
-///         (_, ItemView::Import { name, ty }) if name.name == "a" => {
+///     let item = item?;
+///     match item.view {
+///         ItemView::Import { name, ty } if name.name == "a" => {
 ///             imports.item(&ItemTree::Import { name: "file".into(), ty })?
 ///         }
-///         (place, _) => imports.raw(&bytes[place])?,
+///         _ => imports.raw(&bytes[item.range])?,
 ///     };
 /// }
 ///

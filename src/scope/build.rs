@@ -2,11 +2,10 @@
 
 use super::meaning::Declarations;
 use super::{Definitions, Entry, Frame, Meaning, NONE};
-use crate::cursor::{Step, Steps};
 use crate::shim::vec::VecUsing;
 use crate::tree::{IndexCounts, Space};
 use crate::view::{CoreInstanceView, InstanceView, ItemView};
-use crate::{ListFault, Sections};
+use crate::{ReadError, Step, Unread, Walk};
 use alloc::collections::BinaryHeap;
 use alloc::vec::Vec;
 use core::mem;
@@ -16,18 +15,18 @@ impl<'a> Definitions<'a> {
     ///
     /// # Errors
     ///
-    /// The first fault of a section or of an item, [`ListFault::TooDeep`] for a component that is
-    /// nested deeper, and [`ListFault::NoMemory`]. Indices that can't be followed are no error
+    /// The first fault of a section or of an item, [`Part::Depth`](crate::Part::Depth) for a component that is
+    /// nested deeper, and [`NoMemory`](crate::Cause::NoMemory). Indices that can't be followed are no error
     /// here.
     #[doc(alias = "parse")]
-    pub fn new(bytes: &'a [u8], limit: usize) -> Result<Self, ListFault> {
+    pub fn new(bytes: &'a [u8], limit: usize) -> Result<Self, ReadError> {
         let mut reader = Reader::new();
         reader.read(bytes, limit, &mut Err)?;
         Ok(reader.all)
     }
 
-    /// Reads a component as [`new`](Self::new) does, and calls a function with each fault. After
-    /// items that can't be read, the next section is read; what isn't a section ends it.
+    /// Reads a component as [`new`](Self::new) does, past what a [`Walk`] passes over, and calls a
+    /// function with each error.
     ///
     /// Where the items of a section can't be read, the indices after them aren't known in the
     /// spaces in which such items define some: what depends on them is
@@ -55,7 +54,7 @@ impl<'a> Definitions<'a> {
     /// assert!(matches!(unread, Some(ScopeFault::Unread { unread: 11, .. })));
     /// # Ok::<(), ScopeFault>(())
     /// ```
-    pub fn past_faults(bytes: &'a [u8], limit: usize, mut tell: impl FnMut(ListFault)) -> Self {
+    pub fn past_faults(bytes: &'a [u8], limit: usize, mut tell: impl FnMut(ReadError)) -> Self {
         let mut reader = Reader::new();
         let read = reader.read(bytes, limit, &mut |fault| {
             tell(fault);
@@ -91,12 +90,12 @@ pub(super) struct Open<'a> {
 }
 
 /// Converts a number of definitions, which exceeds 32 bits only after memory has run out.
-pub(super) fn numbered(len: usize) -> Result<u32, ListFault> {
-    u32::try_from(len).ok().filter(|number| *number != NONE).ok_or(ListFault::NoMemory)
+pub(super) fn numbered(len: usize) -> Result<u32, ReadError> {
+    u32::try_from(len).ok().filter(|number| *number != NONE).ok_or_else(ReadError::memory)
 }
 
-fn push<T>(all: &mut Vec<T>, value: T) -> Result<(), ListFault> {
-    all.push_using(value).map_err(|_| ListFault::NoMemory)
+fn push<T>(all: &mut Vec<T>, value: T) -> Result<(), ReadError> {
+    all.push_using(value).map_err(|_| ReadError::memory())
 }
 
 impl<'a> Reader<'a> {
@@ -111,30 +110,28 @@ impl<'a> Reader<'a> {
         &mut self,
         bytes: &'a [u8],
         limit: usize,
-        tell: &mut dyn FnMut(ListFault) -> Result<(), ListFault>,
-    ) -> Result<(), ListFault> {
+        tell: &mut dyn FnMut(ReadError) -> Result<(), ReadError>,
+    ) -> Result<(), ReadError> {
         self.enter(0, Meaning::Item(ItemView::Component(bytes)))?;
-        let mut steps = Steps::new(Sections::new(bytes)?.nested(limit));
-        loop {
-            match steps.next() {
-                Ok(Some(Step::Enter(place, bytes))) => {
-                    self.enter(place, Meaning::Item(ItemView::Component(bytes)))?;
+        // the end of the section
+        let mut end = 0;
+        for step in Walk::new(bytes, limit)? {
+            match step {
+                Step::Section(section) => end = section.range().end,
+                Step::Enter(item) => self.enter(item.range.start, Meaning::Item(item.view))?,
+                Step::Leave => self.leave_and_define()?,
+                Step::Item(item) => self.item(item.range.start, end, item.view)?,
+                Step::Unread(Unread { error, range, count }) => {
+                    tell(error)?;
+                    self.unread(&error, range.start, count)?;
                 }
-                Ok(Some(Step::Leave)) => self.leave_and_define()?,
-                Ok(Some(Step::Item { place, end, item })) => self.item(place, end, item)?,
-                Ok(Some(Step::Unread { fault, section, place, count })) => {
-                    tell(fault)?;
-                    self.unread(section, place, count)?;
-                }
-                Err(fault) => tell(fault)?,
-                Ok(None) => break,
             }
         }
         self.leave().map(|_| ())
     }
 
     /// Begins the scope of what is at this byte offset.
-    fn enter(&mut self, place: usize, opener: Meaning<'a>) -> Result<(), ListFault> {
+    fn enter(&mut self, place: usize, opener: Meaning<'a>) -> Result<(), ReadError> {
         let (scope, start) = (numbered(self.all.frames.len())?, numbered(self.all.entries.len())?);
         let outer = self.open.last().map_or(NONE, |open| open.scope);
         push(&mut self.all.frames, Frame { place, outer, start, ..Frame::EMPTY })?;
@@ -145,7 +142,7 @@ impl<'a> Reader<'a> {
     }
 
     /// Ends the innermost scope. Returns it.
-    fn leave(&mut self) -> Result<Option<Open<'a>>, ListFault> {
+    fn leave(&mut self) -> Result<Option<Open<'a>>, ReadError> {
         let Some(open) = self.open.pop() else { return Ok(None) };
         let from = self.all.names.len();
         while let Some((_, name, number)) = self.pop_name(open.scope) {
@@ -164,7 +161,7 @@ impl<'a> Reader<'a> {
     }
 
     /// Ends the innermost scope, and defines it in the one around it.
-    fn leave_and_define(&mut self) -> Result<(), ListFault> {
+    fn leave_and_define(&mut self) -> Result<(), ReadError> {
         let Some(Open { scope, opener: (place, meaning), .. }) = self.leave()? else {
             return Ok(());
         };
@@ -173,7 +170,7 @@ impl<'a> Reader<'a> {
 
     /// Adds an item at this byte offset, of a section that ends at this one.
     #[inline(always)]
-    fn item(&mut self, place: usize, end: usize, item: ItemView<'a>) -> Result<(), ListFault> {
+    fn item(&mut self, place: usize, end: usize, item: ItemView<'a>) -> Result<(), ReadError> {
         self.settle(&item);
         self.meaning(place, Meaning::Item(item))?;
         while let Some(declarations) = self.types.last_mut() {
@@ -191,7 +188,7 @@ impl<'a> Reader<'a> {
 
     /// Adds a definition, with its exports or arguments if it is an instance, or begins its scope
     /// if it is a type that has one.
-    fn meaning(&mut self, place: usize, meaning: Meaning<'a>) -> Result<(), ListFault> {
+    fn meaning(&mut self, place: usize, meaning: Meaning<'a>) -> Result<(), ReadError> {
         if let Some(declarations) = meaning.declarations() {
             push(&mut self.types, declarations)?;
             return self.enter(place, meaning);
@@ -229,7 +226,7 @@ impl<'a> Reader<'a> {
         place: usize,
         instance: Meaning<'a>,
         next: &mut dyn FnMut() -> Option<Meaning<'a>>,
-    ) -> Result<(), ListFault> {
+    ) -> Result<(), ReadError> {
         self.enter(place, instance)?;
         while let Some(member) = next() {
             self.define(place, member, NONE)?;
@@ -243,7 +240,7 @@ impl<'a> Reader<'a> {
         place: usize,
         meaning: Meaning<'a>,
         inner: u32,
-    ) -> Result<(), ListFault> {
+    ) -> Result<(), ReadError> {
         let number = numbered(self.all.entries.len())?;
         let is_list = self.open.last().is_some_and(|open| open.is_list);
         let innermost = self.open.len().saturating_sub(if is_list { 2 } else { 1 });
@@ -295,10 +292,10 @@ impl<'a> Reader<'a> {
     }
 
     /// Adds an entry to the innermost scope, and to its exports if it has a name.
-    fn link(&mut self, number: u32, name: Option<&'a str>) -> Result<(), ListFault> {
+    fn link(&mut self, number: u32, name: Option<&'a str>) -> Result<(), ReadError> {
         let Some(open) = self.open.last() else { return Ok(()) };
         if let Some(name) = name {
-            self.names.try_reserve(1).map_err(|_| ListFault::NoMemory)?;
+            self.names.try_reserve(1).map_err(|_| ReadError::memory())?;
             self.names.push((open.scope, name, number));
         }
         let (first, last) = &mut self.all.frames[open.scope as usize].ends;

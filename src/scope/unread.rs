@@ -4,19 +4,20 @@ use super::build::{Reader, numbered};
 use super::{Meaning, NONE, UNKNOWN};
 use crate::tree::{Scope, Space};
 use crate::view::ItemView;
-use crate::{ComponentSectionId, ListFault};
+use crate::{ComponentSectionId, Part, ReadError};
 
 impl Reader<'_> {
-    /// Adds what a section with this id has from this byte offset on: items that can't be read.
-    pub fn unread(&mut self, section: u8, place: usize, count: u32) -> Result<(), ListFault> {
-        let (Ok(section), 1.., Some(open)) =
-            (ComponentSectionId::try_from(section), count, self.open.last_mut())
-        else {
+    /// Adds what isn't read from this byte offset on, with this number of items.
+    pub fn unread(&mut self, error: &ReadError, place: usize, count: u32) -> Result<(), ReadError> {
+        let Some(open) = self.open.last_mut().filter(|_| error.part != Part::Rest) else {
             return Ok(());
+        };
+        let Some(Ok(section)) = error.id.map(ComponentSectionId::try_from) else {
+            return self.unknown(place);
         };
         let is_canonical = section == ComponentSectionId::CanonicalFunction;
         let frame = &mut self.all.frames[open.scope as usize];
-        if is_canonical {
+        if is_canonical && count > 0 {
             open.assumed.get_or_insert(open.counts);
         } else if section == ComponentSectionId::Export {
             frame.unread = frame.unread.min(numbered(self.all.entries.len())?);
@@ -28,7 +29,29 @@ impl Reader<'_> {
         }
         if let Some(open) = self.open.last_mut() {
             open.counts.add_unread(section);
-            open.assumed.iter_mut().filter(|_| !is_canonical).for_each(|of| of.add_unread(section));
+            // how many canonical functions there are isn't known without their count
+            let is_assumed = is_canonical && count > 0;
+            open.assumed.iter_mut().filter(|_| !is_assumed).for_each(|of| of.add_unread(section));
+        }
+        Ok(())
+    }
+
+    /// Adds what may be items of any kind at this byte offset.
+    fn unknown(&mut self, place: usize) -> Result<(), ReadError> {
+        let Some(open) = self.open.last_mut() else { return Ok(()) };
+        let frame = &mut self.all.frames[open.scope as usize];
+        frame.unread = frame.unread.min(numbered(self.all.entries.len())?);
+        let section = ComponentSectionId::Component;
+        for space in Space::ALL {
+            self.define(
+                place,
+                Meaning::Unread { section, space, count: 0, is_known: false },
+                NONE,
+            )?;
+        }
+        if let Some(open) = self.open.last_mut() {
+            open.counts.add_unknown();
+            open.assumed = None;
         }
         Ok(())
     }

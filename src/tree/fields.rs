@@ -1,5 +1,5 @@
 //! The fields of each type of items, with the index spaces of those that are indices. From this
-//! come the [`Node`]s of owned and borrowed items, and the indices of owned ones.
+//! come the [`Node`]s of borrowed items, and the indices of owned ones.
 //!
 //! An entry `CaseTree = CaseView` is for the owned type and for the borrowed one, whose variants
 //! and fields have the same names. A field is written as in the Rust type. The words after its
@@ -25,9 +25,9 @@ mod values;
 use super::node::Node;
 #[cfg(feature = "tree")]
 use super::{
-    AliasTree, CaseTree, ComponentDecl, CoreCompositeType, CoreInstanceTree, CoreStructType,
-    CoreSubType, CoreTypeTree, DefinedTree, GroupTree, InstanceDecl, InstanceTree, ItemTree,
-    ModuleDecl, NameOptions, NameTree, TypeTree,
+    AliasTree, CaseTree, ComponentDecl, CoreCompositeType, CoreInstanceTree, CoreSubType,
+    CoreTypeTree, DefinedTree, GroupTree, InstanceDecl, InstanceTree, ItemTree, ModuleDecl,
+    TypeTree,
 };
 use super::{
     CanonOf, CoreAbstractHeapType, CoreEntityType, CoreFieldType, CoreGlobalType, CoreHeapType,
@@ -35,8 +35,9 @@ use super::{
     Space,
 };
 use crate::view::{
-    CaseView, ComponentDeclView, CoreInstanceView, CoreSubView, CoreTypeView, DefinedView,
-    GroupView, InstanceDeclView, InstanceView, ItemView, ModuleDeclView, TypeView,
+    CaseView, ComponentDeclView, CoreCompositeView, CoreInstanceView, CoreSubView, CoreTypeView,
+    DefinedView, GroupView, InstanceDeclView, InstanceView, ItemView, ModuleDeclView, NameView,
+    TypeView,
 };
 use crate::{
     Alias, CanonicalOption, ComponentExportKind, ComponentOuterAliasKind, ComponentTypeRef,
@@ -51,21 +52,21 @@ use owned::{Muts, TreeMut};
 pub(super) use place::Place;
 pub use place::{IndexCounts, Scopes};
 pub(super) use shape::Named;
-use shape::{Kind, Role, Shape, Values, filled, named, role, shape};
+use shape::{Kind, Role, Shape, Values, filled, role, shape};
 use values::leaves;
 
 /// A function that takes the elements of a list, each with the bytes that it was read from, until
 /// it breaks.
 pub(super) type Visit<'v> = dyn FnMut(&dyn Tree, Option<&[u8]>) -> ControlFlow<()> + 'v;
 
-/// A value that is an item or within one, owned or borrowed.
+/// A value that is a borrowed item or within one.
 pub(super) trait Tree: Sync {
     /// Sets the values of the fields, and returns their shape; or sets the node of a value at this
     /// place that has no shape.
     fn shape<'n>(&'n self, place: Place<'n>, values: &mut Refs<'n>) -> Option<&'static Shape>;
 }
 
-/// The values of the fields of a borrowed or owned value, or its node.
+/// The values of the fields of a value, or its node.
 pub(super) type Refs<'n> = Values<&'n dyn Tree, Node<'n>>;
 
 /// Returns the value at this place as a node.
@@ -96,31 +97,6 @@ pub(super) fn defined(declaration: &dyn Tree) -> Option<(Space, u32)> {
     values.defined
 }
 
-/// A value whose fields are lists of another type, or parts of it.
-pub(super) trait Whole: Sync {
-    /// Returns the fields of the value at this place.
-    fn fields<'n>(&'n self, place: Place<'n>) -> Named<'n>;
-}
-
-/// A part of a borrowed value that is a value by itself in the owned type.
-pub(super) trait Part: Sync {
-    /// Returns the part at this place as a node.
-    fn part<'n>(&'n self, place: Place<'n>) -> Node<'n>;
-
-    /// Returns the fields of the part, if it has some.
-    fn part_fields<'n>(&'n self, place: Place<'n>) -> Named<'n>;
-}
-
-/// The elements of an owned list.
-#[cfg(feature = "tree")]
-pub(super) trait OwnedElements: Sync {
-    /// Returns the number of them.
-    fn len(&self) -> usize;
-
-    /// Returns the one with this number.
-    fn at(&self, number: usize) -> &dyn Tree;
-}
-
 /// The elements of a borrowed list.
 pub(super) trait Elements: Sync {
     /// Returns the number of them.
@@ -136,7 +112,7 @@ fn one(space: impl Into<Space>) -> Option<(Space, u32)> {
 }
 
 /// Returns the space and the number of the indices that a group of `len` core types defines.
-fn group(len: impl TryInto<u32>) -> Option<(Space, u32)> {
+pub(super) fn group(len: impl TryInto<u32>) -> Option<(Space, u32)> {
     Some((Space::CoreTypes, len.try_into().unwrap_or(u32::MAX)))
 }
 
@@ -152,15 +128,23 @@ macro_rules! shapes {
     };
 }
 
+/// Sets what a declaration defines, of which only nodes tell.
+macro_rules! defines {
+    (seen $values:ident $defined:expr) => {
+        $values.defined = $defined
+    };
+    (changed $values:ident $defined:expr) => {};
+}
+
 /// Sets the values of the fields of an enum, and returns the shape of the variant.
 macro_rules! variant {
-    ($whole:ident $values:ident {
+    ($way:ident $whole:ident $values:ident {
         $($name:ident $(($one:ident $(: $of:tt)?))? $({ $($field:ident $(: $role:tt)?),+ })?
             $(in $outer:tt)? $(=> $defined:expr)?),+ $(,)?
     }) => {
         match $whole {$(
             Self::$name $(($one))? $({ $($field),+ })? => {
-                $($values.defined = $defined;)?
+                $(defines!($way $values $defined);)?
                 filled!($values $name [$($outer)?] $($one)? $($($field)+)?)
             }
         )+}
@@ -169,7 +153,7 @@ macro_rules! variant {
 
 /// Sets the values of the fields of a struct, and returns its shape.
 macro_rules! record {
-    ($whole:ident $values:ident { $($field:ident $(: $role:tt)?),+ }) => {{
+    ($way:ident $whole:ident $values:ident { $($field:ident $(: $role:tt)?),+ }) => {{
         let Self { $($field),+ } = $whole;
         filled!($values SHAPE [] $($field)+)
     }};
@@ -181,7 +165,7 @@ macro_rules! tree_by {
         impl $($generics)* Tree for $ty {
             #[allow(unused_variables, reason = "not all variants have fields")]
             fn shape<'n>(&'n self, _: Place<'n>, values: &mut Refs<'n>) -> Option<&'static Shape> {
-                Some($shape!(self values $fields))
+                Some($shape!(seen self values $fields))
             }
         }
     };
@@ -194,13 +178,13 @@ macro_rules! tree_mut_by {
         impl $($generics)* TreeMut for $ty {
             #[allow(unused_variables, reason = "not all variants have fields")]
             fn shape_mut<'n>(&'n mut self, values: &mut Muts<'n>) -> Option<&'static Shape> {
-                Some($shape!(self values $fields))
+                Some($shape!(changed self values $fields))
             }
         }
     };
 }
 
-/// Implements `Tree` and `TreeMut` for enums, and in tests `Random`.
+/// Implements `Tree` and `TreeMut` for enums, the latter for owned ones, and in tests `Random`.
 macro_rules! enums {
     () => {};
     (@shaped $variants:tt $($impls:tt)*) => {
@@ -220,11 +204,14 @@ macro_rules! enums {
         random::random_enum! { super::$tree, $variants }
         enums! { $($rest)* }
     };
+    (owned $ty:ident $variants:tt) => {
+        enums! { @shaped $variants tree_mut_by! { variant $variants [] $ty } }
+        #[cfg(test)]
+        random::random_enum! { $ty, $variants }
+    };
     ($tree:ident = $view:ident $variants:tt $($rest:tt)*) => {
         enums! { @shaped $variants
             tree_by! { variant $variants [] $view<'_> }
-            #[cfg(feature = "tree")]
-            tree_by! { variant $variants [] $tree }
             #[cfg(feature = "tree")]
             tree_mut_by! { variant $variants [] $tree }
         }
@@ -262,12 +249,17 @@ macro_rules! words {
 /// one.
 macro_rules! structs {
     () => {};
+    ($name:ident: $view:ident $fields:tt $($rest:tt)*) => {
+        const _: () = {
+            static SHAPE: Shape = shape!(Record $name $fields);
+            tree_by! { record $fields [] $view<'_> }
+        };
+        structs! { $($rest)* }
+    };
     ($tree:ident = $view:ident $fields:tt $($rest:tt)*) => {
         const _: () = {
             static SHAPE: Shape = shape!(Record $tree $fields);
             tree_by! { record $fields [] $view<'_> }
-            #[cfg(feature = "tree")]
-            tree_by! { record $fields [] $tree }
             #[cfg(feature = "tree")]
             tree_mut_by! { record $fields [] $tree }
         };
@@ -297,19 +289,17 @@ structs! {
     CoreSubType = CoreSubView { is_final, supertype_idx: CoreTypes, composite_type }
     CoreTableType { element_type, table64, minimum, maximum }
     CoreTagType { func_type_idx: CoreTypes }
+    NameTree: NameView { name, implements, version_suffix, external_id }
 }
 
-// Borrowed, they have fields of their own.
-#[cfg(feature = "tree")]
-structs! {
-    CoreStructType { fields }
-    NameOptions { implements, version_suffix, external_id }
-    NameTree { name, options }
-}
-
+// Borrowed, it has fields of its own.
 #[cfg(feature = "tree")]
 enums! {
-    CoreCompositeType { Func(ty), Array(ty), Struct(ty) }
+    owned CoreCompositeType { Func(ty), Array(ty), Struct(ty) }
+}
+
+enums! {
+    CoreCompositeView<'_> { Func { params, results }, Array(ty), Struct(fields) }
 }
 
 enums! {

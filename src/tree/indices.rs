@@ -6,16 +6,16 @@ mod nested;
 mod visited;
 
 #[cfg(feature = "tree")]
-pub use nested::OuterFault;
-#[cfg(feature = "tree")]
 pub use visited::IndexUse;
 #[cfg(feature = "tree")]
 pub(super) use visited::Visitor;
 
-#[cfg(feature = "tree")]
-use super::ItemTree;
 use super::fields::defined;
+#[cfg(feature = "tree")]
+use super::fields::group;
 use super::{CoreEntityType, Space};
+#[cfg(feature = "tree")]
+use super::{CoreTypeTree, GroupTree, ItemTree};
 use crate::view::{ItemView, ModuleDeclView};
 
 /// A component or a type with index spaces of its own, as seen from an item (component model,
@@ -30,41 +30,45 @@ pub enum Scope {
     Type(u32),
 }
 
-/// Defines the call of an owned and of a borrowed item.
-macro_rules! defined_indices {
-    ($($item:ty)+) => {$(
-        impl $item {
-            /// Returns the index space in which the item defines indices, and their number
-            /// (component model, explainer, "Index Spaces"); `None` for a custom section.
-            ///
-            /// A recursion group defines an index for each of its types. [`indices`](Self::indices)
-            /// counts one for the group, as upstream's builder does.
-            ///
-            /// ```
-            /// use wenc::tree::Space;
-            /// use wenc::{ListFault, list};
-            ///
-            /// // a recursion group of two core types
-            /// let component = b"\0asm\x0d\0\x01\0\x03\x08\x01\x4e\x02\x60\0\0\x5f\0";
-            /// let listing = list(component)?;
-            /// let group = listing.items().next().expect("an item");
-            /// assert_eq!(group.defined_indices(), Some((Space::CoreTypes, 2)));
-            /// assert_eq!(group.indices(), Some((Space::CoreTypes, 1)));
-            /// # Ok::<(), ListFault>(())
-            /// ```
-            pub fn defined_indices(&self) -> Option<(Space, u32)> {
-                match self {
-                    Self::CoreType(ty) => defined(ty),
-                    _ => self.indices(),
-                }
-            }
+impl ItemView<'_> {
+    /// Returns the index space in which the item defines indices, and their number (component
+    /// model, explainer, "Index Spaces"); `None` for a custom section.
+    ///
+    /// A recursion group defines an index for each of its types. [`indices`](Self::indices) counts
+    /// one for the group, as upstream's builder does.
+    ///
+    /// ```
+    /// use wenc::tree::Space;
+    /// use wenc::{ReadError, Sections};
+    ///
+    /// // a recursion group of two core types
+    /// let component = b"\0asm\x0d\0\x01\0\x03\x08\x01\x4e\x02\x60\0\0\x5f\0";
+    /// let group = Sections::new(component)?.items().next().expect("an item")?.view;
+    /// assert_eq!(group.defined_indices(), Some((Space::CoreTypes, 2)));
+    /// assert_eq!(group.indices(), Some((Space::CoreTypes, 1)));
+    /// # Ok::<(), ReadError>(())
+    /// ```
+    pub fn defined_indices(&self) -> Option<(Space, u32)> {
+        match self {
+            Self::CoreType(ty) => defined(ty),
+            _ => self.indices(),
         }
-    )+};
+    }
 }
 
 #[cfg(feature = "tree")]
-defined_indices! { ItemTree }
-defined_indices! { ItemView<'_> }
+impl ItemTree {
+    /// Returns what [`ItemView::defined_indices`] returns for the borrowed item.
+    pub fn defined_indices(&self) -> Option<(Space, u32)> {
+        match self {
+            Self::CoreType(ty) => match &**ty {
+                CoreTypeTree::Group(GroupTree::Rec(types)) => group(types.len()),
+                _ => self.indices(),
+            },
+            _ => self.indices(),
+        }
+    }
+}
 
 /// Returns the index space in which a declaration of a module type defines indices, and their
 /// number.

@@ -1,12 +1,6 @@
 //! Items as nodes with named fields.
 
-#[cfg(feature = "tree")]
-use super::fields::OwnedElements;
-use super::fields::{
-    Elements, IndexCounts, Part, Place, Scopes, Tree, Visit, Whole, defined, fields_of, node_of,
-};
-#[cfg(feature = "tree")]
-use super::{ItemTree, ValType};
+use super::fields::{Elements, IndexCounts, Place, Scopes, Tree, defined, fields_of, node_of};
 use super::{Scope, Space};
 use crate::CoreItem;
 use crate::view::{
@@ -21,13 +15,13 @@ use core::ops::ControlFlow;
 /// An item, or a value within one, by its kind and its fields, from which programs can print it
 /// without a case for each type.
 ///
-/// [`ItemTree::node`], [`ItemView::node`] and [`CoreItem::node`] return an item's node,
-/// [`Child::node`] that of a value within. Names are those of the Rust types; a borrowed value has
-/// those of the owned one, and the elements of its lists are read one by one. Nothing is allocated.
+/// [`ItemView::node`] and [`CoreItem::node`] return an item's node, [`Child::node`] that of a value
+/// within. Names are those of the owned Rust types; the elements of lists are read one by one.
+/// Nothing is allocated.
 /// Types in items that were read are at most 100 deep.
 ///
 /// ```
-/// use wenc::list;
+/// use wenc::Sections;
 /// use wenc::tree::{Node, Scope, Space};
 ///
 /// /// Calls a function with each index in a value.
@@ -46,11 +40,11 @@ use core::ops::ControlFlow;
 /// // the type `u32`, and that of lists of it
 /// let component = b"\0asm\x0d\0\x01\0\x07\x04\x02\x79\x70\0";
 /// let mut found = Vec::new();
-/// for item in list(component)?.into_items() {
-///     each_index(item.node(), &mut |scope, space, index| found.push((scope, space, index)));
+/// for item in Sections::new(component)?.items() {
+///     each_index(item?.view.node(), &mut |scope, space, index| found.push((scope, space, index)));
 /// }
 /// assert_eq!(found, [(Scope::Component(0), Space::Types, 0)]);
-/// # Ok::<(), wenc::ListFault>(())
+/// # Ok::<(), wenc::ReadError>(())
 /// ```
 #[derive(Clone, Copy, Debug)]
 pub enum Node<'a> {
@@ -126,11 +120,11 @@ impl Node<'_> {
     /// let component = b"\0asm\x0d\0\x01\0\x07\x04\x02\x79\x70\0";
     /// let mut found = Vec::new();
     /// for item in Sections::new(component)?.items() {
-    ///     item?.1.node().each_index(|used| found.push(used));
+    ///     item?.view.node().each_index(|used| found.push(used));
     /// }
     /// let (space, scope) = (Space::Types, Scope::Component(0));
     /// assert_eq!(found, [UsedIndex { space, scope, index: 0, count: None }]);
-    /// # Ok::<(), wenc::ListFault>(())
+    /// # Ok::<(), wenc::ReadError>(())
     /// ```
     pub fn each_index(self, mut visit: impl FnMut(UsedIndex)) {
         let _ = self.each_use(&mut |used| {
@@ -190,55 +184,19 @@ fn up_to_error<E>(result: &mut Result<(), E>, next: Result<(), E>) -> ControlFlo
 /// A value within a [`Node`].
 #[derive(Clone, Copy)]
 pub struct Child<'a> {
-    source: Source<'a>,
+    tree: &'a dyn Tree,
     place: Place<'a>,
     encoded: Option<&'a [u8]>,
 }
 
-#[derive(Clone, Copy)]
-enum Source<'a> {
-    Tree(&'a dyn Tree),
-    /// A part of a value.
-    Part(&'a dyn Part),
-    /// An option that is a part of a value.
-    Present(&'a dyn Part),
-    /// The parameters or the results of a core function type.
-    #[cfg(feature = "tree")]
-    Types(&'a [ValType]),
-}
-
 impl<'a> Child<'a> {
-    fn of(source: Source<'a>, place: Place<'a>) -> Self {
-        Self { source, place, encoded: None }
-    }
-
     pub(super) fn new(tree: &'a dyn Tree, place: Place<'a>) -> Self {
-        Self::of(Source::Tree(tree), place)
-    }
-
-    pub(super) fn part(whole: &'a dyn Part, place: Place<'a>) -> Self {
-        Self::of(Source::Part(whole), place)
-    }
-
-    pub(super) fn present(whole: &'a dyn Part, place: Place<'a>) -> Self {
-        Self::of(Source::Present(whole), place)
-    }
-
-    #[cfg(feature = "tree")]
-    pub(super) fn types(types: &'a [ValType], place: Place<'a>) -> Self {
-        Self::of(Source::Types(types), place)
+        Self { tree, place, encoded: None }
     }
 
     /// Returns the node of this value.
     pub fn node(self) -> Node<'a> {
-        let place = self.place;
-        match self.source {
-            Source::Tree(tree) => node_of(tree, place),
-            Source::Part(whole) => whole.part(place),
-            Source::Present(whole) => Node::Present(Self::part(whole, place)),
-            #[cfg(feature = "tree")]
-            Source::Types(types) => Node::List(List { listed: Listed::Types(types), place }),
-        }
+        node_of(self.tree, self.place)
     }
 
     /// Returns the bytes that this element of a borrowed list was read from; `None` for other
@@ -263,28 +221,13 @@ impl fmt::Debug for Child<'_> {
 /// The elements of a list in a [`Node`].
 #[derive(Clone, Copy)]
 pub struct List<'a> {
-    listed: Listed<'a>,
+    elements: &'a dyn Elements,
     place: Place<'a>,
-}
-
-#[derive(Clone, Copy)]
-enum Listed<'a> {
-    Elements(&'a dyn Elements),
-    #[cfg(feature = "tree")]
-    Owned(&'a dyn OwnedElements),
-    /// The parameters or the results of a core function type.
-    #[cfg(feature = "tree")]
-    Types(&'a [ValType]),
 }
 
 impl<'a> List<'a> {
     pub(super) fn new(list: &'a dyn Elements, place: Place<'a>) -> Self {
-        Self { listed: Listed::Elements(list), place }
-    }
-
-    #[cfg(feature = "tree")]
-    pub(super) fn owned(list: &'a dyn OwnedElements, place: Place<'a>) -> Self {
-        Self { listed: Listed::Owned(list), place }
+        Self { elements: list, place }
     }
 
     /// Returns `true` if there are no elements. Nothing is read.
@@ -294,13 +237,7 @@ impl<'a> List<'a> {
 
     /// Returns the number of elements. Nothing is read.
     pub fn len(self) -> usize {
-        match self.listed {
-            Listed::Elements(list) => list.len(),
-            #[cfg(feature = "tree")]
-            Listed::Owned(list) => list.len(),
-            #[cfg(feature = "tree")]
-            Listed::Types(types) => types.len(),
-        }
+        self.elements.len()
     }
 
     /// Calls a function with each element, in order. Those of a borrowed item are read one by one,
@@ -331,9 +268,7 @@ impl<'a> List<'a> {
         if let Some(around) = around {
             return self.each_declaration(around, place, visit);
         }
-        self.each_element(&mut |element, encoded| {
-            visit(Child { source: Source::Tree(element), place, encoded })
-        })
+        self.elements.each(&mut |element, encoded| visit(Child { tree: element, place, encoded }))
     }
 
     /// Calls a function with each declaration of a type in these scopes.
@@ -345,33 +280,13 @@ impl<'a> List<'a> {
         visit: &mut dyn FnMut(Child<'_>) -> ControlFlow<()>,
     ) -> ControlFlow<()> {
         let mut declared = IndexCounts::default();
-        self.each_element(&mut |element, encoded| {
+        self.elements.each(&mut |element, encoded| {
             let inner = around.inner(declared);
             let place = place.in_scopes(&inner);
-            visit(Child { source: Source::Tree(element), place, encoded })?;
+            visit(Child { tree: element, place, encoded })?;
             declared.define(defined(element));
             ControlFlow::Continue(())
         })
-    }
-
-    fn each_element(self, visit: &mut Visit<'_>) -> ControlFlow<()> {
-        match self.listed {
-            Listed::Elements(list) => list.each(visit),
-            #[cfg(feature = "tree")]
-            Listed::Owned(list) => {
-                for number in 0..list.len() {
-                    visit(list.at(number), None)?;
-                }
-                ControlFlow::Continue(())
-            }
-            #[cfg(feature = "tree")]
-            Listed::Types(types) => {
-                for ty in types {
-                    visit(ty, None)?;
-                }
-                ControlFlow::Continue(())
-            }
-        }
     }
 }
 
@@ -388,84 +303,34 @@ impl fmt::Debug for List<'_> {
 /// The fields of a value in a [`Node`].
 #[derive(Clone, Copy)]
 pub struct Fields<'a> {
-    fielded: Fielded<'a>,
+    tree: &'a dyn Tree,
     place: Place<'a>,
-}
-
-#[derive(Clone, Copy)]
-enum Fielded<'a> {
-    Tree(&'a dyn Tree),
-    Whole(&'a dyn Whole),
-    Part(&'a dyn Part),
 }
 
 impl<'a> Fields<'a> {
     pub(super) fn new(tree: &'a dyn Tree, place: Place<'a>) -> Self {
-        Self { fielded: Fielded::Tree(tree), place }
-    }
-
-    /// The fields of a value without a shape.
-    pub(super) fn whole(whole: &'a dyn Whole, place: Place<'a>) -> Self {
-        Self { fielded: Fielded::Whole(whole), place }
-    }
-
-    /// The fields of a part of a value.
-    pub(super) fn part(whole: &'a dyn Part, place: Place<'a>) -> Self {
-        Self { fielded: Fielded::Part(whole), place }
+        Self { tree, place }
     }
 
     /// Returns the names and the values, in the order of the Rust type.
     pub fn iter(self) -> impl FusedIterator<Item = (&'static str, Child<'a>)> {
-        Numbered { fields: self, at: 0 }
-    }
-
-    /// Returns the field with this number. It isn't inlined, so that the stack of a caller that
-    /// calls itself stays small.
-    #[inline(never)]
-    fn get(self, at: usize) -> Option<(&'static str, Child<'a>)> {
-        let named = match self.fielded {
-            Fielded::Tree(tree) => fields_of(tree, self.place),
-            Fielded::Whole(whole) => whole.fields(self.place),
-            Fielded::Part(whole) => whole.part_fields(self.place),
-        };
-        named.get(at).copied().flatten()
+        fields_of(self.tree, self.place).into_iter().flatten()
     }
 
     /// Visits each index in the values, in the order in which they are encoded.
     #[inline(never)]
     fn each_use(self, visit: &mut dyn FnMut(UsedIndex) -> ControlFlow<()>) -> ControlFlow<()> {
-        for (_, child) in self.iter() {
-            if !child.place.is_last {
-                child.node().each_use(visit)?;
-            }
-        }
-        for (_, child) in self.iter() {
-            if child.place.is_last {
-                child.node().each_use(visit)?;
+        let fields = fields_of(self.tree, self.place);
+        for is_last in [false, true] {
+            for (_, child) in fields.iter().flatten() {
+                if child.place.is_last == is_last {
+                    child.node().each_use(visit)?;
+                }
             }
         }
         ControlFlow::Continue(())
     }
 }
-
-/// The fields of a value from one of them on.
-struct Numbered<'a> {
-    fields: Fields<'a>,
-    at: usize,
-}
-
-impl<'a> Iterator for Numbered<'a> {
-    type Item = (&'static str, Child<'a>);
-
-    fn next(&mut self) -> Option<Self::Item> {
-        let field = self.fields.get(self.at)?;
-        // 32 bits: a value has fewer fields.
-        self.at += 1;
-        Some(field)
-    }
-}
-
-impl FusedIterator for Numbered<'_> {}
 
 impl fmt::Debug for Fields<'_> {
     fn fmt(&self, f: &mut fmt::Formatter<'_>) -> fmt::Result {
@@ -473,20 +338,12 @@ impl fmt::Debug for Fields<'_> {
     }
 }
 
-#[cfg(feature = "tree")]
-impl ItemTree {
-    /// Returns the item as a node: the variant of this type that it is.
-    pub fn node(&self) -> Node<'_> {
-        node_of(self, Place::default())
-    }
-}
-
 /// Defines the node of a borrowed value.
 macro_rules! nodes {
     ($($view:ident)+) => {$(
         impl $view<'_> {
-            /// Returns the value as a [`Node`], which is that of the owned value. Nothing is
-            /// allocated. The scopes of its indices are those that an item's would have.
+            /// Returns the value as a [`Node`]. Nothing is allocated. The scopes of its indices are
+            /// those that an item's would have.
             pub fn node(&self) -> Node<'_> {
                 node_of(self, Place::default())
             }
@@ -506,14 +363,14 @@ impl ItemView<'_> {
     ///
     /// ```
     /// use wenc::tree::{IndexCounts, Scopes};
-    /// use wenc::{ListFault, Sections};
+    /// use wenc::{ReadError, Sections};
     ///
     /// // two types, and an import of a function of the second
     /// let component = b"\0asm\x0d\0\x01\0\x07\x09\x02\x40\0\x01\0\x40\0\x01\0\
     ///     \x0a\x06\x01\0\x01f\x01\x01";
     /// let mut counts = [IndexCounts::default()];
     /// for item in Sections::new(component)?.items() {
-    ///     let (_, item) = item?;
+    ///     let item = item?.view;
     ///     let scopes = Scopes::new(&counts);
     ///     item.node_in(&scopes).each_index(|used| assert_eq!(used.count, None));
     ///     // in front of the types, it would be out of range
@@ -522,7 +379,7 @@ impl ItemView<'_> {
     ///     item.node_in(&scopes).each_index(|used| assert_eq!(used.count, Some(0)));
     ///     counts[0].add(&item);
     /// }
-    /// # Ok::<(), ListFault>(())
+    /// # Ok::<(), ReadError>(())
     /// ```
     pub fn node_in<'n>(&'n self, scopes: &'n Scopes<'n>) -> Node<'n> {
         node_of(self, Place::of_item(scopes))

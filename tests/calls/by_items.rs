@@ -18,9 +18,9 @@ pub fn by_items(
     let mut component = Component::new();
     for section in sections(bytes) {
         let mut made = ItemSection::new(section.id());
-        for item in section.trees() {
-            let (place, item) = item.expect("an item");
-            add(&mut made, place, item).expect("it is added");
+        for item in section.items() {
+            let item = item.expect("an item");
+            add(&mut made, item.range, item.view.to_tree()).expect("it is added");
         }
         assert_eq!(made.len(), section.count());
         component.section(&made);

@@ -4,10 +4,10 @@ use wenc::tree::{ItemTree, NameTree};
 use wenc::view::{ItemView, NameView};
 use wenc::{ComponentExternName, Listing, Sections};
 
-/// Whether the borrowed item equals the owned one: both define the same indices, and have the same
-/// fields. Those of the borrowed one are read from the bytes, member by member.
+/// Whether the borrowed item equals the owned one: both define the same indices, and a copy of the
+/// one is the other.
 pub fn is_same(view: ItemView<'_>, tree: &ItemTree) -> bool {
-    view.indices() == tree.indices() && format!("{:?}", view.node()) == format!("{:?}", tree.node())
+    view.indices() == tree.indices() && view.to_tree() == *tree
 }
 
 /// Whether the names are the same.
@@ -15,16 +15,16 @@ pub fn is_name(view: NameView<'_>, tree: &NameTree) -> bool {
     ComponentExternName::from(view) == ComponentExternName::from(tree)
 }
 
-/// Owned items and borrowed ones are those of the listing. Returns how many there are.
+/// The items are those of the listing. Returns how many there are.
 #[track_caller]
 pub fn are_items(sections: Sections<'_>, listing: &Listing) -> usize {
-    let (views, trees) = (sections.items(), sections.trees());
-    let mut listed = listing.items();
-    for (view, tree) in views.zip(trees) {
-        let ((place, view), (range, tree)) = (view.expect("an item"), tree.expect("an item"));
-        assert!(place == range && listed.next() == Some(&tree), "{tree:?}");
-        assert!(is_same(view, &tree), "{view:?} is not {tree:?}");
+    let mut listed = listing.sections.iter().flat_map(|section| &section.items);
+    let mut count = 0;
+    for item in sections.items() {
+        let (view, tree) = (item.expect("an item").view, listed.next().expect("an item"));
+        assert!(is_same(view, tree), "{view:?} is not {tree:?}");
+        count += 1;
     }
     assert!(listed.next().is_none());
-    sections.items().count()
+    count
 }

@@ -6,7 +6,7 @@ use wenc::tree::{ItemTree, Node, Scope, Space, UsedIndex};
 pub type Seen = (Space, Scope, u32);
 
 /// Adds the indices in the node.
-pub fn add_indices(node: Node, seen: &mut Vec<Seen>) {
+fn add_indices(node: Node, seen: &mut Vec<Seen>) {
     match node {
         Node::Index { space, scope, index } => seen.push((space, scope, index)),
         Node::Present(child) | Node::Variant(_, child) => add_indices(child.node(), seen),
@@ -18,13 +18,16 @@ pub fn add_indices(node: Node, seen: &mut Vec<Seen>) {
     }
 }
 
-/// The indices that are visited of the node, in order.
+/// The indices that are visited of the node, in order. Its fields have the same.
 pub fn visited(node: Node) -> Vec<Seen> {
     let mut seen = Vec::new();
     node.each_index(|UsedIndex { space, scope, index, count }| {
         assert_eq!(count, None, "the scopes aren't known");
         seen.push((space, scope, index));
     });
+    let mut of_fields = Vec::new();
+    add_indices(node, &mut of_fields);
+    assert!(sorted(of_fields) == sorted(seen.clone()), "{node:?}");
     seen
 }
 
@@ -50,14 +53,10 @@ fn sorted(mut seen: Vec<Seen>) -> Vec<Seen> {
     seen
 }
 
-/// The item contains these indices, in this order, and each can be changed. Its node has them too,
-/// in the order of fields. A difference isn't printed, as it may be long.
+/// The item contains these indices, in this order, and each can be changed. A difference isn't
+/// printed, as it may be long.
 #[track_caller]
 pub fn has_indices(item: &ItemTree, wanted: &[Seen], what: &str) {
-    let mut of_node = Vec::new();
-    add_indices(item.node(), &mut of_node);
-    assert!(sorted(of_node) == sorted(wanted.to_vec()), "{what}: the node");
-    assert!(visited(item.node()) == wanted, "{what}: visited");
     let mut changed = item.clone();
     assert!(raised(&mut changed, 0) == wanted && changed == *item, "{what}: nothing was changed");
     assert!(raised(&mut changed, 1000) == wanted, "{what}: to be changed");

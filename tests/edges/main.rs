@@ -12,4 +12,4 @@ mod traits;
 mod turns;
 mod unsupported;
 
-use wenc_calls::{corpus, hex, panics, refuse, seen, spellings};
+use wenc_calls::{corpus, hex, panics, refuse, spellings};

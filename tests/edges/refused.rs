@@ -101,9 +101,10 @@ fn a_component_is_built() {
 
 fn is_listed(bytes: &[u8]) {
     let listing = each_is_refused(30, |refusals| {
-        refusals.call(|| list(bytes).map_err(refused(ListFault::NoMemory)))
+        refusals.call(|| list(bytes).map_err(refused(Error::NoMemory.into())))
     });
-    let commands: Vec<_> = listing.into_items().map(tree::Command::from).collect();
+    let commands: Vec<_> =
+        listing.sections.into_iter().flat_map(|of| of.items).map(tree::Command::from).collect();
     assert!(tree::build(&commands).expect("there is memory").bytes == bytes);
 }
 
@@ -117,7 +118,7 @@ fn has_sections_of_items(bytes: &[u8]) {
             let (mut anew, mut kept) = (ItemSection::new(listed.id), ItemSection::new(listed.id));
             for (item, read) in listed.items.iter().zip(section.items()) {
                 refusals.call(|| anew.item(item).map(drop));
-                let (place, _) = read.expect("an item");
+                let place = read.expect("an item").range;
                 refusals.call(|| kept.raw(&bytes[place.clone()]).map(drop));
             }
             calmly(|| {
@@ -152,7 +153,7 @@ fn built<T>(
 /// Each item of the component is added as it was read.
 fn is_made_of_items(bytes: &[u8]) {
     let items = Sections::new(bytes).expect("it is a component").items();
-    let items: Vec<_> = items.map(|item| item.expect("it is read").1).collect();
+    let items: Vec<_> = items.map(|item| item.expect("it is read").view).collect();
     assert!(built(&items, |builder, item| builder.try_item(Some(NAME), item)) == bytes);
 }
 
@@ -180,8 +181,15 @@ fn components_and_modules_are_made_by_hand() {
 
 /// Each item of the component is added by a command, and finally the whole as a nested component.
 fn is_made_by_commands(bytes: &[u8]) {
-    let commands =
-        || list(bytes).expect("it is a component").into_items().map(tree::Command::from).collect();
+    let commands = || {
+        list(bytes)
+            .expect("it is a component")
+            .sections
+            .into_iter()
+            .flat_map(|of| of.items)
+            .map(tree::Command::from)
+            .collect()
+    };
     let nested = tree::Command::Component { debug_name: None, commands: commands() };
     let commands: Vec<_> = commands().into_iter().chain([nested]).collect();
     let made = built(&commands, |builder, command| builder.command(command));

@@ -227,15 +227,14 @@ fn what_is_read_is_shared_by_threads() {
         ($call:ident: $($ty:ty)*) => { $($call::<$ty>();)* };
     }
     all! { are_errors:
-        wenc::Error ListFault ModuleFault NamesFault ProducersFault UnknownSectionId
-        tree::OuterFault scope::ScopeFault
+        wenc::Error ReadError UnknownSectionId scope::ScopeFault
     }
     all! { are_shared:
         tree::Node tree::Child tree::Fields tree::List tree::Scopes tree::IndexCounts
         scope::Definitions scope::Definition scope::Scope scope::Meaning
-        Sections SectionReader Items Trees NestedSections OutOfRange CoreSections CoreSection
+        Sections SectionReader Items Walk Step Unread OutOfRange CoreSections CoreSection
         CoreItems CoreItem DebugNames NamesReader ProducersReader Listing view::ItemView
         view::ComponentDecls view::InstanceDecls view::ListOf<u32> ItemTree Command tree::Built
-        Cause Unread Unsupported
+        Cause Part Format Found First Unsupported
     }
 }

@@ -4,8 +4,10 @@
 use crate::refuse::requested;
 use std::collections::BTreeMap;
 use wenc::scope::{Definitions, ScopeFault};
-use wenc::tree::{ItemTree, OuterFault, Scope, Space};
-use wenc::{Component, DebugNames, ListFault, NestedComponentSection, RawSection, Sections};
+use wenc::tree::{ItemTree, Scope, Space};
+use wenc::{
+    Component, DebugNames, NestedComponentSection, Part, RawSection, ReadError, Step, Walk,
+};
 
 /// A number of at most 28 bits, padded to four bytes.
 fn number(number: usize) -> [u8; 4] {
@@ -33,16 +35,21 @@ fn alias(out: u8, index: u8) -> [u8; 7] {
 #[test]
 fn millions_of_components_in_one_another_are_walked() {
     let component = deep(2_000_000, &alias(1, 0));
-    let sections = Sections::new(&component).expect("it is a component");
-    let (last, requested) = requested(|| sections.nested(usize::MAX).last());
-    let (depth, section) = last.expect("a section").expect("it is read");
-    assert_eq!((depth, section.range()), (2_000_000, component.len() - 7..component.len()));
-    // one number for each depth, in a list that doubles
-    assert!(requested <= 8_000_000 * size_of::<usize>(), "{requested}");
-    assert_eq!(sections.nested(usize::MAX).count(), 2_000_001);
-    let fault = sections.nested(1_999_999).last().expect("a section").err();
-    let place = component.len() - 7 - 8 - 5;
-    assert_eq!(fault, Some(ListFault::TooDeep { place, unread: None, cause: None }));
+    let walk = |limit| Walk::new(&component, limit).expect("it is a component");
+    let count = || {
+        let (mut sections, mut deepest, mut walk) = (0, 0, walk(usize::MAX));
+        while let Some(step) = walk.next() {
+            sections += usize::from(matches!(step, Step::Section(_)));
+            deepest = deepest.max(walk.depth());
+        }
+        (sections, deepest)
+    };
+    let (counted, requested) = requested(count);
+    assert_eq!(counted, (2_000_001, 2_000_000));
+    // 120 bytes for each depth, in lists that double
+    assert!(requested <= 4 * 2_000_000 * 120, "{requested}");
+    let error = walk(1_999_999).items().last().expect("an error").expect_err("it is too deep");
+    assert_eq!((error.part, error.offset), (Part::Depth, component.len() - 7 - 8));
 }
 
 #[test]
@@ -62,8 +69,8 @@ fn outer_indices_are_visited_up_to_a_hundred_deep() {
         assert!(visited.is_ok() || item == ItemTree::Component(component));
         (visited, seen, item)
     };
-    let too_deep =
-        Err(OuterFault::Read(ListFault::TooDeep { place: 8, unread: None, cause: None }));
+    let is_too_deep =
+        |visited: Result<(), ReadError>| visited.is_err_and(|error| error.part == Part::Depth);
     for limit in [100, usize::MAX] {
         let (visited, seen, item) = visit(100, 101, limit);
         assert_eq!((visited, seen), (Ok(()), 1));
@@ -78,10 +85,10 @@ fn outer_indices_are_visited_up_to_a_hundred_deep() {
         assert!(item == ItemTree::Component(expected.finish()));
         for depth in [101, 40_000] {
             let (visited, seen, _) = visit(depth, 101, limit);
-            assert_eq!((visited, seen), (too_deep, 0));
+            assert!(is_too_deep(visited) && seen == 0);
         }
     }
-    assert_eq!(visit(100, 101, 99).0, too_deep);
+    assert!(is_too_deep(visit(100, 101, 99).0));
 }
 
 /// A component with this many imports of functions, with empty names.
@@ -195,7 +202,7 @@ fn outer_aliases_are_followed_in_deep_components() {
     assert_eq!(scope.resolve(Space::Types, 0).map(|found| found.place()), Ok(11));
     assert!(Definitions::new(&component, DEPTH).is_ok());
     let fault = Definitions::new(&component, DEPTH - 1).err();
-    assert!(matches!(fault, Some(ListFault::TooDeep { .. })), "{fault:?}");
+    assert!(matches!(fault, Some(error) if error.part == Part::Depth), "{fault:?}");
 }
 
 /// A subsection with these names, of functions.

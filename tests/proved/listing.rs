@@ -24,31 +24,27 @@ fn component(sections: &[u8]) -> Vec<u8> {
     [b"\0asm\x0d\0\x01\0", sections].concat()
 }
 
-/// Reads the component as a listing, as owned items and as borrowed ones: they are the same, or all
-/// end with the same fault, which is returned once.
+/// Reads the component as a listing and as borrowed items: they are the same, or both end with the
+/// same error, which is returned once.
 #[cfg(feature = "tree")]
 #[track_caller]
-fn read(bytes: &[u8]) -> Result<crate::Listing, crate::ListFault> {
+fn read(bytes: &[u8]) -> Result<crate::Listing, crate::ReadError> {
     let listing = crate::list(bytes);
     let Ok(sections) = crate::Sections::new(bytes) else { return listing };
-    let (mut views, mut trees) = (sections.items(), sections.trees());
-    let mut items = Vec::new();
-    let fault = loop {
-        match (views.next(), trees.next()) {
-            (Some(Ok((place, view))), Some(Ok((range, tree)))) => {
-                assert!(place == range && view.to_tree() == tree, "{bytes:x?}");
-                items.push(tree);
-            }
-            (view, tree) => {
-                let ends = [view.and_then(Result::err), tree.and_then(Result::err)];
-                assert!(ends[0] == ends[1], "{bytes:x?}");
-                break ends[0];
-            }
+    let mut views = sections.items();
+    let (mut items, mut fault) = (Vec::new(), None);
+    for view in views.by_ref() {
+        match view {
+            Ok(item) => items.push(item.view.to_tree()),
+            Err(error) => fault = Some(error),
         }
-    };
-    assert!(views.next().is_none() && trees.next().is_none());
+    }
+    assert!(views.next().is_none());
     match &listing {
-        Ok(listing) => assert!(fault.is_none() && listing.items().eq(&items), "{bytes:x?}"),
+        Ok(listing) => assert!(
+            fault.is_none() && listing.sections.iter().flat_map(|of| &of.items).eq(&items),
+            "{bytes:x?}"
+        ),
         Err(other) => assert_eq!(fault.as_ref(), Some(other), "{bytes:x?}"),
     }
     listing

@@ -2,11 +2,9 @@
 
 use std::ops::Range;
 use wenc::tree::{CoreEntityType, CoreMemoryType};
-use wenc::{
-    Cause, CoreItem, CoreSection, CoreSections, ExportKind, Found, ModuleFault, SectionId, Unread,
-};
+use wenc::{Cause, CoreItem, CoreSection, CoreSections, ExportKind, Part, ReadError, SectionId};
 
-fn all(module: &[u8]) -> Vec<Result<CoreSection<'_>, ModuleFault>> {
+fn all(module: &[u8]) -> Vec<Result<CoreSection<'_>, ReadError>> {
     CoreSections::new(module).expect("it has a header").collect()
 }
 
@@ -35,15 +33,9 @@ fn ids_ascend() {
 
 #[test]
 fn faults_have_their_places() {
-    for (bytes, found) in [
-        (&b""[..], Found::Nothing),
-        (b"\0asm\x01\0\0", Found::Other),
-        (b"\0asm\x0d\0\x01\0", Found::Component),
-        (b"\0asm\x02\0\0\0", Found::OtherVersion),
-        (b" (module)", Found::Text),
-    ] {
-        let fault = ModuleFault::NotAModule { found };
-        assert_eq!(CoreSections::new(bytes).err(), Some(fault), "{bytes:x?}");
+    for bytes in [&b""[..], b"\0asm\x01\0\0", b"\0asm\x0d\0\x01\0", b" (module)"] {
+        let error = CoreSections::new(bytes).expect_err("it is none");
+        assert_eq!((error.part, error.offset), (Part::Header, 0), "{bytes:x?}");
     }
     for at in 0..8 {
         let mut header = *b"\0asm\x01\0\0\0";
@@ -67,26 +59,16 @@ fn faults_have_their_places() {
         let module = [&empty[..], bytes].concat();
         let told = all(&module);
         assert_eq!(told.len(), 2, "{bytes:x?}");
-        assert_eq!(told[1], Err(ModuleFault::BadSection { place: 10, cause }), "{bytes:x?}");
+        let error = told[1].as_ref().expect_err("it isn't read");
+        assert_eq!((error.part, error.offset, error.cause), (Part::Section, 10, cause));
     }
-    let texts = [
-        (
-            ModuleFault::NotAModule { found: Found::Component },
-            "no core module's header: found a component",
-        ),
-        (
-            ModuleFault::BadSection { place: 10, cause: few(12, 7, 2) },
-            "bad core section at 0xa: needs 7 bytes or more from 0xc on, where 2 are left",
-        ),
-    ];
-    for (fault, text) in texts {
-        let fault: Box<dyn std::error::Error> = fault.into();
-        assert_eq!(fault.to_string(), text);
-    }
+    let error = all(&[&empty[..], b"\x01\x07ab"].concat())[1].clone().expect_err("it is cut");
+    let text = "bad core section at 0xa: needs 7 bytes or more from 0xc on, where 2 are left";
+    assert_eq!(error.to_string(), text);
 }
 
 /// The items of a section, with their byte offsets.
-type Read = Vec<Result<(Range<usize>, CoreItem<'static>), ModuleFault>>;
+type Read = Vec<Result<(Range<usize>, CoreItem<'static>), ReadError>>;
 
 /// The items of the only section of a module, after that section's count.
 fn items(section: &[u8]) -> (Option<u32>, Read) {
@@ -118,36 +100,33 @@ fn items_have_their_places() {
 
 #[test]
 fn items_that_are_not_read_have_their_places() {
-    let bad = |unread, cause| vec![Err(ModuleFault::BadItem { unread, cause })];
-    let few = |place, needed, len| Some(Cause::Few { place, needed, len });
+    let all = items;
+    // what is read, with the first part that isn't and where that is wrong
+    let items = |section: &[u8]| {
+        let (count, read) = all(section);
+        let error = read.last().and_then(|last| last.as_ref().err());
+        (count, error.map(|error| (error.part, error.offset, error.place())))
+    };
     // of a section whose items aren't read
-    assert_eq!(items(b"\x01\x04\x01\x60\0\0"), (Some(1), vec![]));
-    let count = Unread::Count { place: 10 };
-    assert_eq!(items(b"\x01\0"), (None, bad(count, few(10, 1, 0))));
-    assert_eq!(items(b"\x07\x01\x80"), (None, bad(count, few(11, 1, 0))));
-    assert_eq!(items(b"\0\x02\x01x"), (None, vec![]));
-    assert_eq!(items(b"\x0e\x01\x01"), (None, vec![]));
-    let item = |number, place, cause| bad(Unread::Item { number, place }, cause);
-    assert_eq!(items(b"\x08\0"), (Some(1), item(0, 10, few(10, 1, 0))));
-    let (_, told) = items(b"\x07\x05\x02\x01g\x05\0");
+    assert_eq!(items(b"\x01\x04\x01\x60\0\0"), (Some(1), None));
+    assert_eq!(items(b"\x01\0"), (None, Some((Part::Count, 10, 10))));
+    assert_eq!(items(b"\x07\x01\x80"), (None, Some((Part::Count, 10, 11))));
+    assert_eq!(items(b"\0\x02\x01x"), (None, None));
+    assert_eq!(items(b"\x0e\x01\x01"), (None, None));
+    assert_eq!(items(b"\x08\0"), (Some(1), Some((Part::Item(0), 10, 10))));
+    let (_, told) = all(b"\x07\x05\x02\x01g\x05\0");
     let text = "bad item 0 at 0xb: 0x05 at 0xd, where 0x00 to 0x04 is expected";
-    assert_eq!(told[0].as_ref().map_err(ModuleFault::to_string), Err(text.into()));
-    let behind = bad(Unread::Behind { place: 11 }, None);
-    assert_eq!(items(b"\x02\x02\0\0"), (Some(0), behind.clone()));
-    assert_eq!(items(b"\x08\x02\x07\0").1[1..], behind);
+    assert_eq!(told[0].as_ref().map_err(ReadError::to_string), Err(text.into()));
+    let behind = Some((Part::Rest, 11, 11));
+    assert_eq!(items(b"\x02\x02\0\0"), (Some(0), behind));
+    assert_eq!(items(b"\x08\x02\x07\0"), (Some(1), behind));
     // of other items, without bytes for that many, or with bytes for none
-    assert_eq!(items(b"\x01\x01\x01"), (Some(1), item(0, 11, few(11, 1, 0))));
-    assert_eq!(items(b"\x03\x03\x03\0\0"), (Some(3), item(0, 11, few(11, 3, 2))));
-    assert_eq!(items(b"\x03\x03\x02\0\0"), (Some(2), vec![]));
-    assert_eq!(items(b"\x03\x02\0\0"), (Some(0), behind.clone()));
-    assert_eq!(items(b"\x0c\x01\x02"), (Some(2), vec![]));
+    assert_eq!(items(b"\x01\x01\x01"), (Some(1), Some((Part::Item(0), 11, 11))));
+    assert_eq!(items(b"\x03\x03\x03\0\0"), (Some(3), Some((Part::Item(0), 11, 13))));
+    assert_eq!(items(b"\x03\x03\x02\0\0"), (Some(2), None));
+    assert_eq!(items(b"\x03\x02\0\0"), (Some(0), behind));
+    assert_eq!(items(b"\x0c\x01\x02"), (Some(2), None));
     assert_eq!(items(b"\x0c\x02\x02\0"), (Some(2), behind));
-    let texts = [
-        (Unread::Count { place: 10 }, "bad count at 0xa"),
-        (Unread::Item { number: 1, place: 17 }, "bad item 1 at 0x11"),
-        (Unread::Behind { place: 16 }, "bytes behind the last item at 0x10"),
-    ];
-    for (unread, text) in texts {
-        assert_eq!(ModuleFault::BadItem { unread, cause: None }.to_string(), text);
-    }
+    let error = all(b"\x02\x02\0\0").1.remove(0).expect_err("bytes behind").to_string();
+    assert_eq!(error, "bytes behind the last item at 0xb");
 }

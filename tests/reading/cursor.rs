@@ -1,9 +1,8 @@
 //! Sections and items one by one.
 
 use crate::component;
-use wenc::tree::Space;
 use wenc::view::ItemView;
-use wenc::{Cause, ComponentSectionId, ListFault, Sections, Unread, list};
+use wenc::{Cause, Item, Part, Sections, Step, Walk, list};
 
 fn sections(bytes: &[u8]) -> Sections<'_> {
     Sections::new(bytes).expect("it is a component")
@@ -15,40 +14,25 @@ const BAD_IMPORT: &[u8] = b"\x07\x05\x01\x40\x00\x01\x00\
     \x0a\x07\x02\x00\x01f\x01\x00\xff\
     \x0b\x07\x01\x00\x01b\x01\x00\x00";
 
-/// The last section is cut.
-const CUT: ListFault =
-    ListFault::BadSection { place: 33, cause: Some(Cause::Few { place: 35, needed: 7, len: 6 }) };
-
 #[test]
 fn the_first_fault_ends_what_is_found() {
     let bytes = component(BAD_IMPORT);
-    let unread = Some(Unread::Item { number: 1, place: 32 });
-    let section = ComponentSectionId::Import;
-    let fault = list(&bytes).expect_err("it can't be read");
-    assert!(matches!(fault, ListFault::BadItem { place: 24, section: of, unread: at, .. }
-        if of == section && at == unread));
+    let error = list(&bytes).expect_err("it can't be read");
+    assert_eq!((error.section, error.id), (24, Some(10)));
+    assert_eq!((error.part, error.offset), (Part::Item(1), 32));
     let text = "bad item 1 at 0x20 in the section at 0x18: 0xff where an import is expected";
-    assert_eq!(fault.to_string(), text);
+    assert_eq!(error.to_string(), text);
 
     let items: Vec<_> = sections(&bytes).items().collect();
     assert_eq!(items.len(), 4);
     assert_eq!(items.iter().filter(|item| item.is_ok()).count(), 3);
-    assert_eq!(items[3], Err(fault));
-    let trees: Vec<_> = sections(&bytes).trees().map(Result::err).collect();
-    assert_eq!(trees, [None, None, None, Some(fault)]);
-
-    assert_eq!(sections(&bytes).index_count(Space::Types), Err(fault));
-
-    let imports: Vec<_> = sections(&bytes).imports().collect();
-    assert_eq!(imports.len(), 2);
-    assert_eq!(imports[1], Err(fault));
-
-    // only sections of exports are read
-    let exports: Result<Vec<_>, _> = sections(&bytes).exports().collect();
-    let exports = exports.expect("they are read");
-    assert_eq!(exports.iter().map(|(name, ..)| name.name).collect::<Vec<_>>(), ["a", "b"]);
-    let exports: Vec<_> = sections(&bytes[..bytes.len() - 1]).exports().collect();
-    assert_eq!((exports.len(), &exports[1]), (2, &Err(CUT)));
+    assert_eq!(items[3], Err(error));
+    let walk = || Walk::new(&bytes, 0).expect("it is a component");
+    assert!(walk().items().eq(items));
+    // a walk goes on
+    let count = |is_counted: fn(&Step<'_>) -> bool| walk().filter(is_counted).count();
+    assert_eq!(count(|step| matches!(step, Step::Item(_))), 4);
+    assert_eq!(count(|step| matches!(step, Step::Unread(_))), 1);
 }
 
 /// A fault is returned once, by the sections and by the items of one, and then `None`.
@@ -57,10 +41,13 @@ fn a_fault_comes_once() {
     let bytes = component(BAD_IMPORT);
     let mut rest = sections(&bytes[..bytes.len() - 1]);
     let imports = rest.nth(2).expect("a section").expect("it is framed");
-    assert_eq!(rest.next().expect("a fault").err(), Some(CUT));
+    // the last section is cut
+    let error = rest.next().expect("an error").expect_err("it isn't read");
+    assert_eq!((error.offset, error.id), (33, None));
+    assert_eq!(error.cause, Cause::Few { place: 35, needed: 7, len: 6 });
     assert_eq!(format!("{rest:?}"), "Sections { offset: None, .. }");
     assert!(rest.next().is_none() && rest.next().is_none());
-    assert_eq!((rest.count(), rest.items().count()), (0, 0));
+    assert_eq!((rest.clone().count(), rest.items().count()), (0, 0));
 
     let mut items = imports.items();
     assert!(items.next().expect("an item").is_ok());
@@ -76,12 +63,12 @@ fn a_cursor_goes_on_from_where_it_is() {
     let mut rest = sections(&bytes);
     let ids: Vec<u8> = rest.by_ref().take(3).map(|section| section.expect("it is").id()).collect();
     assert_eq!(ids, [7, 11, 10]);
-    let items: Result<Vec<_>, _> = rest.items().collect();
-    let [(range, ItemView::Export { name, .. })] = &items.expect("it is read")[..] else {
+    let items: Result<Vec<_>, _> = rest.clone().items().collect();
+    let [Item { range, view: ItemView::Export { name, .. }, .. }] = &items.expect("it is read")[..]
+    else {
         panic!("one export");
     };
     assert_eq!((range.clone(), name.name), (36..42, "b"));
-    assert_eq!(rest.imports().count(), 0);
     assert_eq!(rest.count(), 1);
 }
 
@@ -95,10 +82,5 @@ fn readers_are_printed() {
     let section = outer.next().unwrap().unwrap();
     assert_eq!(format!("{section:?}"), "SectionReader { id: 4, range: 8..21, .. }");
     assert_eq!(format!("{:?}", section.items()), "Items { offset: Some(10), .. }");
-    assert_eq!(format!("{:?}", section.trees()), "Trees(Items { offset: Some(10), .. })");
     assert_eq!(format!("{outer:?}"), "Sections { offset: Some(21), .. }");
-    let inner = section.component().unwrap().unwrap();
-    assert_eq!(format!("{inner:?}"), "Sections { offset: Some(18), .. }");
-    let nested = format!("{:?}", sections(bytes).nested(1));
-    assert!(nested.starts_with("NestedSections { innermost: Sections { offset: Some(8), .. }"));
 }

@@ -3,10 +3,7 @@
 use crate::{bytes, component};
 use wenc::tree::{ItemTree, Space};
 use wenc::view::ItemView;
-use wenc::{
-    Cause, Component, ComponentNameSection, ComponentSection, DebugNames, NamesFault, Sections,
-    list,
-};
+use wenc::{Component, ComponentNameSection, ComponentSection, DebugNames, Format};
 
 /// A custom section with this name and data.
 fn custom(name: &str, data: &[u8]) -> ItemTree {
@@ -57,8 +54,7 @@ fn each_sort_is_read_and_written() {
     let bytes = component.finish();
     assert!(bytes.ends_with(&[b"\x0ecomponent-name", &data[..]].concat()));
     assert_eq!(written.id(), 0);
-    assert_eq!(list(&bytes).expect("it is listed").names(), names);
-    assert_eq!(Sections::new(&bytes).expect("it is a component").names(), names);
+    assert_eq!(DebugNames::of(&bytes), names);
     assert!(ComponentNameSection::from(&DebugNames::new()).is_empty());
 }
 
@@ -113,8 +109,8 @@ fn what_is_not_read_is_told() {
     for (bad, cause) in bad {
         let mut names = DebugNames::new();
         let told = names.read(&section(&[&front[..], &bytes(bad)].concat())).unwrap_err();
-        assert!(matches!(told, NamesFault::BadSubsection { place: 7, .. }), "{bad}");
-        assert_eq!(told.to_string(), format!("bad subsection of names at 0x7: {cause}"));
+        assert_eq!((told.format, told.offset), (Format::Names, 7), "{bad}");
+        assert_eq!(told.to_string(), format!("bad debug names at 0x7: {cause}"));
         assert_eq!(names.component(), Some("a"));
     }
     let mut names = DebugNames::new();
@@ -122,11 +118,6 @@ fn what_is_not_read_is_told() {
         assert_eq!(names.read(&other), Ok(()));
     }
     assert_eq!(names, DebugNames::default());
-    let cause = Cause::Text { place: 19, byte: 0xff };
-    let fault: Box<dyn std::error::Error> = NamesFault::BadSubsection { place: 16, cause }.into();
-    let text = "bad subsection of names at 0x10: 0xff at 0x13 isn't UTF-8";
-    assert_eq!(fault.to_string(), text);
-    assert_eq!(NamesFault::NoMemory.to_string(), "no memory");
 }
 
 /// Names before the first that can't be read, in two sections of names.
@@ -136,10 +127,10 @@ fn a_component_has_the_names_that_are_read() {
         \x00\x16\x0ecomponent-name\x01\x05\x01\x01\x00\x01a\
         \x00\x15\x0ecomponent-name\x00\x02\x01b\x00\x00\
         \x0a\x01";
-    let names = Sections::new(bytes).expect("it is a component").names();
+    let names = DebugNames::of(bytes);
     assert_eq!((names.get(Space::Funcs, 0), names.component()), (Some("a"), Some("b")));
-    let listing = list(&bytes[..bytes.len() - 2]).expect("it is listed");
-    assert_eq!(listing.names(), names);
+    assert_eq!(DebugNames::of(&bytes[..bytes.len() - 2]), names);
+    assert_eq!(DebugNames::of(&bytes[1..]), DebugNames::new());
 }
 
 /// Names are found after sections whose items can't be read, and up to one without a size within
@@ -157,10 +148,10 @@ fn names_behind_what_is_not_read_are_found() {
     for framed in framed {
         for cut in [&b"\x06"[..], b"\x06\x01"] {
             let bytes = component(&[framed, names, cut, other].concat());
-            let found = Sections::new(&bytes).expect("it is a component").names();
+            let found = DebugNames::of(&bytes);
             assert_eq!(found.iter().collect::<Vec<_>>(), [(Space::Funcs, 0, "a")], "{framed:x?}");
             let bytes = component(&[framed, names, framed, other].concat());
-            let found = Sections::new(&bytes).expect("it is a component").names();
+            let found = DebugNames::of(&bytes);
             let both = [(Space::Funcs, 0, "a"), (Space::Funcs, 1, "b")];
             assert_eq!(found.iter().collect::<Vec<_>>(), both, "{framed:x?}");
         }

@@ -5,7 +5,7 @@ use crate::{component, nested, section};
 use wenc::scope::{Definition, Definitions, Meaning, Scope, ScopeFault};
 use wenc::tree::Space;
 use wenc::view::{InstanceView, ItemView, ModuleDeclView, TypeView};
-use wenc::{Cause, ComponentTypeRef, ListFault, Unread};
+use wenc::{Cause, ComponentTypeRef, Part};
 
 fn read(component: Vec<u8>) -> Definitions<'static> {
     Definitions::new(component.leak(), 100).expect("it is read")
@@ -350,16 +350,16 @@ fn past_faults(component: Vec<u8>) -> (Definitions<'static>, usize) {
 fn past_a_fault() {
     let ty = many(7, &[b"\x79"]);
     for (sections, types, faults) in [
-        // after what isn't a section, or has no count, nothing is read
-        ([&ty[..], &section(10, b"\x80"), &ty].concat(), 1, 1),
-        ([&ty[..], b"\x0b\x7f\x01", &ty].concat(), 1, 1),
+        // what isn't a section, or has no count, may define any number
+        ([&ty[..], &section(10, b"\x80"), &ty].concat(), u64::MAX, 1),
+        ([&ty[..], b"\x0b\x7f\x01", &ty].concat(), u64::MAX, 1),
         ([&ty[..], &nested(b"\x07\x02\x01\x79\x07\x01\x01"), &ty].concat(), 2, 1),
         ([&ty[..], &section(7, b"\x02\x79\x42\x01\x01\x79\x07"), &ty].concat(), 4, 1),
         ([&ty[..], &section(7, b"\x02\x79\x42\x01\x01\x79"), &ty].concat(), 4, 0),
         ([&ty[..], &section(8, b"\x01\x07"), &section(9, b"\x80"), &ty].concat(), 2, 2),
         ([&ty[..], &section(8, b"\x01\x07"), &section(10, b"\x01"), &ty].concat(), u64::MAX, 2),
         ([&ty[..], &section(7, b"\x02\x79\x07"), &ty].concat(), u64::MAX, 1),
-        (b"\x0c\0".to_vec(), 0, 1),
+        (b"\x0c\0".to_vec(), u64::MAX, 1),
     ] {
         let (definitions, found) = past_faults(component(&sections));
         let count = definitions.component().count(Space::Types);
@@ -484,19 +484,18 @@ fn cycles() {
 #[test]
 fn too_deep() {
     let all = component(&nested(&nested(&nested(b""))));
-    for (limit, place) in [(0, 8), (1, 18), (2, 28)] {
-        let fault = ListFault::TooDeep { place, unread: None, cause: None };
-        assert_eq!(Definitions::new(&all, limit).err(), Some(fault));
+    for (limit, place) in [(0, 10), (1, 20), (2, 30)] {
+        let error = Definitions::new(&all, limit).expect_err("it is too deep");
+        assert_eq!((error.part, error.offset), (Part::Depth, place));
     }
     assert!(Definitions::new(&all, 3).is_ok());
     let types = |depth| {
         let ty = [&b"\x42\x01\x01".repeat(depth)[..], b"\x42\0"].concat();
         component(&[&b"\x07\xaf\x02\x01"[..], &ty].concat())
     };
-    let unread = Some(Unread::Item { number: 0, place: 12 });
-    let cause = Some(Cause::Deep { place: 12 + 300 });
-    let fault = ListFault::TooDeep { place: 8, unread, cause };
-    assert_eq!(Definitions::new(&types(100), 0).err(), Some(fault));
+    let error = Definitions::new(&types(100), 0).expect_err("it is too deep");
+    assert_eq!((error.part, error.offset), (Part::Item(0), 12));
+    assert_eq!(error.cause, Cause::Deep { place: 12 + 300 });
 }
 
 #[test]

@@ -30,7 +30,7 @@ fn each_type_has_its_definition() {
     let wanted = [Some(11), Some(11), Some(11), Some(21), None];
     assert_eq!([0, 1, 2, 3, 4].map(|index| at(&bytes, index)), wanted);
     let listing = list(&bytes).expect("it is listed");
-    assert_eq!((listing.items().count(), listing.count(TYPES)), (2, 2));
+    assert_eq!((listing.sections[0].items.len(), listing.counts[TYPES.number()]), (2, 2));
     let definitions = Definitions::new(&bytes, 0).expect("it is read");
     let group = definitions.component().get(TYPES, 2).expect("it is in the group");
     assert_eq!(
@@ -43,11 +43,12 @@ fn each_type_has_its_definition() {
 fn each_type_is_counted() {
     let bytes = component(&types());
     let sections = Sections::new(&bytes).expect("a component");
-    assert_eq!(sections.index_count(TYPES), Ok(4));
-    assert_eq!(sections.index_count(Space::Types), Ok(0));
+    let mut walk = wenc::Walk::new(&bytes, 0).expect("a component");
+    assert_eq!(walk.by_ref().count(), 3);
+    assert_eq!([TYPES, Space::Types].map(|space| walk.counts().of(space)), [4, 0]);
     let (mut counts, mut found) = (IndexCounts::default(), Vec::new());
     for item in sections.items() {
-        let (_, item) = item.expect("it is read");
+        let item = item.expect("it is read").view;
         assert_eq!(item.defined_indices(), item.to_tree().defined_indices());
         assert_eq!(item.indices(), Some((TYPES, 1)));
         found.push(item.defined_indices());

@@ -2,31 +2,11 @@
 
 use crate::component;
 use wenc::scope::Definitions;
-use wenc::tree::{ItemTree, Space};
-use wenc::{ComponentExportKind as Kind, ComponentTypeRef as Ref, Listing, list};
+use wenc::tree::Space;
+use wenc::{Listing, list};
 
 fn listed(sections: &[u8]) -> Listing {
     list(&component(sections)).expect("it is listed")
-}
-
-#[test]
-fn imports_and_exports() {
-    let listing = listed(
-        b"\x0a\x0b\x02\x00\x01f\x01\x00\x00\x01i\x05\x01\x07\x02\x01\x7d\
-        \x0a\x07\x01\x00\x01t\x03\x00\x02\
-        \x0b\x0d\x02\x00\x01g\x01\x03\x00\x00\x01h\x03\x04\x00\
-        \x0b\x09\x01\x00\x01i\x05\x05\x01\x05\x06",
-    );
-    let imports: Vec<_> = listing.imports().map(|(name, ty)| (&*name.name, ty)).collect();
-    let eq = Ref::Type(wenc::TypeBounds::Eq(2));
-    assert_eq!(imports, [("f", Ref::Func(0)), ("i", Ref::Instance(1)), ("t", eq)]);
-    let exports = listing.exports().map(|(name, kind, index)| (&*name.name, kind, index));
-    let expected = [("g", Kind::Func, 3), ("h", Kind::Type, 4), ("i", Kind::Instance, 5)];
-    assert_eq!(exports.collect::<Vec<_>>(), expected);
-    assert_eq!(listing.items().count(), 7);
-    assert_eq!(listing.items().nth(2), listing.sections[1].items.first());
-    let items: Vec<ItemTree> = listing.items().cloned().collect();
-    assert_eq!(listing.into_items().collect::<Vec<_>>(), items);
 }
 
 /// The number of the item that defines an index.
@@ -48,8 +28,7 @@ fn each_index_has_its_definition() {
     let of_values = [Some(2), Some(2), Some(2), Some(4), None];
     assert_eq!([0, 1, 2, 3, 4].map(|index| found(Space::Values, index)), of_values);
     assert_eq!((found(Space::Funcs, 2), found(Space::Types, 0)), (None, None));
-    assert_eq!((listing.count(Space::Values), listing.count(Space::Funcs)), (4, 2));
-    assert_eq!(listing.count(Space::Types), 0);
+    assert_eq!(listing.counts[Space::Values.number()], 4);
 
     let many = b"\x09\x07\x00\x00\xff\xff\xff\xff\x0f\x09\x03\x01\x00\x02";
     let found = |index| item_of(many, Space::Values, index);

@@ -2,7 +2,7 @@
 
 use crate::component;
 use wenc::tree::{CoreFuncType, CoreValType, Node};
-use wenc::{CoreItem, CoreSections, ExportKind, Sections, list};
+use wenc::{CoreItem, CoreSections, ExportKind, Sections};
 
 /// What is printed of a node, in single quotes.
 fn shown(node: Node) -> String {
@@ -25,7 +25,8 @@ const NODES: [(&[u8], &str); 9] = [
     (
         b"\x05\x08\x01\x01\x01\0\x01e\x03\x04",
         "Variant('Instance', Variant('Exports', List([Tuple({'0': Record('NameTree', \
-         {'name': Text('e'), 'options': Absent}), '1': Word('Type'), \
+         {'name': Text('e'), 'implements': Absent, 'version_suffix': Absent, \
+         'external_id': Absent}), '1': Word('Type'), \
          '2': Index { space: Types, scope: Component(0), index: 4 }})])))",
     ),
     // the fields are in the order of the type's
@@ -56,10 +57,10 @@ const NODES: [(&[u8], &str); 9] = [
         b"\x03\x07\x01\x60\x02\x7f\x63\x01\0",
         "Variant('CoreType', Variant('Group', Variant('Sub', Record('CoreSubType', \
          {'is_final': Flag(true), 'supertype_idx': Absent, 'composite_type': \
-         Variant('Func', Record('CoreFuncType', {'params': List([Word('I32'), Variant('Ref', \
+         Struct('Func', {'params': List([Word('I32'), Variant('Ref', \
          Record('CoreRefType', {'nullable': Flag(true), 'heap_type': Variant('Concrete', \
          Index { space: CoreTypes, scope: Component(0), index: 1 })}))]), 'results': \
-         List([])}))}))))",
+         List([])})}))))",
     ),
     (b"\x01\x08\0asm\x01\0\0\0", "Variant('Module', Bytes([0, 97, 115, 109, 1, 0, 0, 0]))"),
     (b"\0\x03\x01x\x07", "Struct('Custom', {'name': Text('x'), 'data': Bytes([7])})"),
@@ -68,8 +69,10 @@ const NODES: [(&[u8], &str); 9] = [
 #[test]
 fn items_of_components() {
     for (section, printed) in NODES {
-        let items = list(&component(section)).expect("it is a component").into_items();
-        let nodes: Vec<String> = items.map(|item| shown(item.node())).collect();
+        let bytes = component(section);
+        let items = Sections::new(&bytes).expect("it is a component").items();
+        let nodes: Vec<String> =
+            items.map(|item| shown(item.expect("it is read").view.node())).collect();
         assert_eq!(nodes, [printed]);
     }
 }
@@ -116,11 +119,9 @@ fn encoded(node: Node) -> Vec<Option<(Vec<u8>, usize)>> {
 fn bytes_of_borrowed_elements() {
     let bytes = component(b"\x07\x0b\x01\x42\x02\x02\x03\x02\0\x09\x01\x6b\x79");
     let view = Sections::new(&bytes).expect("it has a header").items().next();
-    let (_, view) = view.expect("there is an item").expect("it is read");
+    let view = view.expect("there is an item").expect("it is read").view;
     let [alias, ty] = [&b"\x02\x03\x02\0\x09"[..], b"\x01\x6b\x79"].map(<[u8]>::to_vec);
     assert_eq!(encoded(view.node()), [Some((alias, 5)), Some((ty, 3))]);
-    let mut items = list(&bytes).expect("it is a component").into_items();
-    assert_eq!(encoded(items.next().expect("there is an item").node()), [None, None]);
 }
 
 #[test]

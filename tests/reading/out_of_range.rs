@@ -3,10 +3,10 @@
 use crate::{component, nested, section};
 use wenc::tree::{IndexCounts, Node, Scope, Scopes, Space};
 use wenc::view::ItemView;
-use wenc::{ListFault, OutOfRange, Sections};
+use wenc::{OutOfRange, Part, ReadError, Sections, Walk};
 
-fn found(component: &[u8]) -> Result<Vec<OutOfRange>, ListFault> {
-    Sections::new(component)?.out_of_range(100).collect()
+fn found(component: &[u8]) -> Result<Vec<OutOfRange>, ReadError> {
+    Walk::new(component, 100)?.out_of_range().collect()
 }
 
 /// Expects that these indices are out of range: each with the byte offset of its item, its space,
@@ -172,15 +172,15 @@ fn faults_end_it() {
     // a list of type 9, and an item that is none
     let sections = section(7, b"\x02\x70\x09\x01");
     let bytes = component(&sections);
-    let mut all = Sections::new(&bytes).expect("a component").out_of_range(0);
+    let mut all = Walk::new(&bytes, 0).expect("a component").out_of_range();
     let first = all.next().expect("it is found").expect("it is read");
     assert_eq!((first.place, first.index, first.count), (11, 9, 0));
-    assert!(matches!(all.next(), Some(Err(ListFault::BadItem { .. }))));
+    assert!(matches!(all.next(), Some(Err(error)) if error.part == Part::Item(1)));
     assert!(all.next().is_none() && all.next().is_none());
 
     let bytes = component(&nested(b""));
-    let deep: Vec<_> = Sections::new(&bytes).expect("a component").out_of_range(0).collect();
-    assert_eq!(deep, [Err(ListFault::TooDeep { place: 8, unread: None, cause: None })]);
+    let deep: Vec<_> = Walk::new(&bytes, 0).expect("a component").out_of_range().collect();
+    assert!(matches!(deep[..], [Err(error)] if error.part == Part::Depth));
     assert_eq!(found(&bytes), Ok(vec![]));
 }
 
@@ -206,8 +206,8 @@ fn many() {
 #[test]
 fn unknown_counts() {
     let bytes = component(&section(7, b"\x01\x70\x09"));
-    let (_, item) =
-        Sections::new(&bytes).expect("a component").items().next().expect("one").expect("read");
+    let items = Sections::new(&bytes).expect("a component").items();
+    let item = items.flatten().next().expect("one").view;
     let mut counts = [IndexCounts::default()];
     let is_marked = |counts: &[IndexCounts], item: &ItemView| {
         let scopes = Scopes::new(counts);

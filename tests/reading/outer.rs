@@ -1,8 +1,8 @@
 //! Nested components, which refer to those around them.
 
 use crate::Seen;
-use wenc::tree::{ItemTree, OuterFault, Scope, Space};
-use wenc::{Error, Found, ListFault};
+use wenc::tree::{ItemTree, Scope, Space};
+use wenc::{Cause, Error, Part, ReadError};
 
 fn component(sections: &[&[u8]]) -> Vec<u8> {
     crate::component(&sections.concat())
@@ -88,7 +88,7 @@ fn what_has_no_such_index_keeps_its_bytes() {
     assert_eq!(raise(&mut module, 5), []);
 }
 
-fn told(bytes: &[u8], limit: usize) -> Result<(), OuterFault> {
+fn told(bytes: &[u8], limit: usize) -> Result<(), ReadError> {
     let mut of = item(bytes);
     let told = of.outer_indices_mut(limit, |used| *used.index += 1);
     assert!(told.is_ok() || of == item(bytes), "it is as it was");
@@ -103,26 +103,19 @@ fn faults_are_told() {
     assert_eq!([&one, &two, &three].map(|bytes| told(bytes, 2)), [Ok(()); 3]);
     assert_eq!([&one, &two].map(|bytes| told(bytes, 1)), [Ok(()); 2]);
     assert_eq!(told(&one, 0), Ok(()));
-    let too_deep =
-        Err(OuterFault::Read(ListFault::TooDeep { place: 18, unread: None, cause: None }));
-    assert_eq!([told(&two, 0), told(&three, 1), told(&three, 0)], [too_deep; 3]);
+    // in the section at 18
+    for (bytes, limit, offset) in [(&two, 0, 20), (&three, 1, 40), (&three, 0, 20)] {
+        let error = told(bytes, limit).expect_err("it is too deep");
+        assert_eq!((error.part, error.cause), (Part::Depth, Cause::Limit(limit)));
+        assert_eq!(error.offset, offset);
+    }
 
-    let nothing = ListFault::NotAComponent { place: 0, found: Found::Nothing };
-    assert_eq!(told(b"", 1), Err(nothing.into()));
+    assert_eq!(told(b"", 1).expect_err("it is none").part, Part::Header);
     let bad = component(&[&ty(2, 3), &nested(&[b"\x06"])]);
     let fault = told(&bad, 1).expect_err("it can't be read").to_string();
-    assert_eq!(fault, "a nested component isn't read: bad section at 0x8: the bytes end at 0x9");
+    assert_eq!(fault, "bad section at 0x1c: the bytes end at 0x1d");
     // more values than there are indices
     let start = b"\x09\x07\x00\x00\xff\xff\xff\xff\x0f";
     assert_eq!(told(&component(&[&ty(2, 3), start, start]), 1), Err(Error::TooMany.into()));
     assert_eq!(told(&component(&[&ty(1, 3), start, start]), 1), Ok(()));
-
-    let texts = [
-        (nothing.into(), "read: no component's header at 0x0: found nothing"),
-        (OuterFault::from(Error::TooMany), "encoded: too many"),
-    ];
-    for (fault, text) in texts {
-        let fault: Box<dyn std::error::Error> = fault.into();
-        assert_eq!(fault.to_string(), format!("a nested component isn't {text}"));
-    }
 }

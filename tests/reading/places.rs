@@ -4,8 +4,8 @@ use crate::component;
 use wenc::tree::Space;
 use wenc::view::ItemView;
 use wenc::{
-    Cause, ComponentSectionId, DebugName, DebugNames, Items, ListFault, NamesFault, NamesReader,
-    Sections, Unread,
+    ComponentSectionId, DebugName, DebugNames, Format, Item, Items, NamesReader, Part, ReadError,
+    Sections,
 };
 
 /// Whatever the numbers are, items within the bytes are read, or an error comes once, and the end
@@ -44,23 +44,21 @@ fn faults_of_a_part_of_a_section() {
     let bytes = component(b"\x0a\x0b\x03\0\x01f\x01\0\0\x01g\x01\xff");
     let id = ComponentSectionId::Import;
     let mut items = Items::at(&bytes, id, 11..21, 3).expect("it is within");
-    let (range, _) = items.next().expect("an item").expect("it is read");
+    let range = items.next().expect("an item").expect("it is read").range;
     assert_eq!((range, items.left()), (11..16, Some((16..21, 2))));
-    let few = |place| Some(Cause::Few { place, needed: 1, len: 0 });
-    let fault = |unread, cause| {
-        let unread = Some(unread);
-        Some(Err(ListFault::BadItem { place: 11, section: id, unread, cause }))
+    let told = |next: Option<Result<Item<'_>, ReadError>>| {
+        let error = next.expect("an error").expect_err("it isn't read");
+        assert_eq!((error.format, error.id), (Format::Component, Some(10)));
+        (error.section, error.part, error.offset, error.place())
     };
-    let is_cut = fault(Unread::Item { number: 1, place: 16 }, few(21));
-    assert_eq!((items.next(), items.left()), (is_cut, None));
+    assert_eq!((told(items.next()), items.left()), ((11, Part::Item(1), 16, 21), None));
     let mut none = Items::at(&bytes, id, 11..16, 0).expect("it is within");
-    assert_eq!(none.next(), fault(Unread::Behind { place: 11 }, None));
+    assert_eq!(told(none.next()), (11, Part::Rest, 11, 11));
     let mut ended = Items::at(&bytes, id, 16..16, 1).expect("it is within");
-    let unread = Some(Unread::Item { number: 0, place: 16 });
-    let fault = ListFault::BadItem { place: 16, section: id, unread, cause: few(16) };
-    assert_eq!(ended.next(), Some(Err(fault)));
+    assert_eq!(told(ended.next()), (16, Part::Item(0), 16, 16));
     let mut unknown = Items::at(&bytes, 12, 11..16, 1).expect("it is within");
-    assert_eq!(unknown.next(), Some(Err(ListFault::BadSection { place: 11, cause: None })));
+    let error = unknown.next().expect("an error").expect_err("there are none");
+    assert_eq!((error.section, error.id, error.part), (11, Some(12), Part::Item(0)));
 }
 
 /// The names of the component and of three functions, of which one has two, a subsection of another
@@ -109,11 +107,9 @@ fn debug_names_from_any_place() {
             while let Some(name) = names.next() {
                 read += 1;
                 if let Err(fault) = name {
-                    let NamesFault::BadSubsection { place: at, cause } = fault else {
-                        panic!("nothing is allocated")
-                    };
+                    let (at, stop) = (fault.offset, fault.place());
                     assert!(place <= at && at <= NAMES.len() && names.next().is_none());
-                    assert!(at <= cause.place() && cause.place() <= NAMES.len(), "{fault}");
+                    assert!(at <= stop && stop <= NAMES.len(), "{fault}");
                     assert_eq!(names.left(), None);
                     faults += 1;
                 }

@@ -1,9 +1,9 @@
 //! Tools in producers sections.
 
-use wenc::{Producer, ProducersFault, ProducersReader, ProducersSection};
+use wenc::{Producer, ProducersReader, ProducersSection, ReadError};
 use wenc_calls::encoded::encoded;
 
-fn tools(data: &[u8]) -> Vec<Result<Producer<'_>, ProducersFault>> {
+fn tools(data: &[u8]) -> Vec<Result<Producer<'_>, ReadError>> {
     ProducersReader::new(data).collect()
 }
 
@@ -72,7 +72,7 @@ fn what_is_not_read_is_a_fault() {
         let (fault, read) = told.split_last().expect("a fault");
         assert!(read.iter().eq(&before.iter().copied().map(Ok).collect::<Vec<_>>()));
         let fault = fault.expect_err("it can't be read");
-        assert_eq!(fault.place, place, "{data:02x?}");
+        assert_eq!(fault.offset, place, "{data:02x?}");
         assert_eq!(fault.to_string(), format!("bad producers at {place:#x}: {cause}"));
     }
 }

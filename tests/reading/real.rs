@@ -1,9 +1,10 @@
 //! Real components, by all that reads them.
 
 use crate::corpus;
-use crate::seen::{are_items, is_name, is_same};
+use crate::seen::{are_items, is_same};
 use wenc::scope::{Definitions, Meaning};
 use wenc::tree::{ItemTree, Space};
+use wenc::view::ItemView;
 use wenc::*;
 use wenc_calls::encoded::encoded;
 
@@ -12,8 +13,6 @@ use wenc_calls::encoded::encoded;
 struct Found {
     components: usize,
     items: usize,
-    imports: usize,
-    exports: usize,
     nested: usize,
     modules: usize,
     module_sections: usize,
@@ -29,17 +28,15 @@ fn components() {
         let sections = Sections::new(&bytes).expect("a component");
         all.components += 1;
         all.items += are_items(sections, &listing);
-        are_found(sections, &listing, &mut all);
+        are_counted(&bytes, &listing);
         are_defined(&bytes, &listing);
         are_read_on(&bytes);
         are_nested(&bytes, &mut all);
-        listing.items().for_each(|item| are_in_modules(item, &mut all));
+        items_of(&listing).for_each(|item| are_in_modules(item, &mut all));
     }
     let wanted = Found {
         components: 40,
         items: 1840,
-        imports: 45,
-        exports: 166,
         nested: 359,
         modules: 100,
         module_sections: 697,
@@ -49,26 +46,17 @@ fn components() {
     assert_eq!(all, wanted);
 }
 
-/// Imports, exports, names and counts are those of the listing.
-fn are_found(sections: Sections<'_>, listing: &Listing, all: &mut Found) {
-    let mut listed = listing.imports();
-    for found in sections.imports() {
-        let ((view, ty), (tree, of)) = (found.expect("it is read"), listed.next().expect("it is"));
-        assert!(is_name(view, tree) && ty == of);
-        all.imports += 1;
-    }
-    assert!(listed.next().is_none());
-    let mut listed = listing.exports();
-    for found in sections.exports() {
-        let (view, kind, index) = found.expect("it is read");
-        let (tree, of, at) = listed.next().expect("it is listed");
-        assert!(is_name(view, tree) && (kind, index) == (of, at));
-        all.exports += 1;
-    }
-    assert!(listed.next().is_none());
-    assert_eq!(sections.names(), listing.names());
+fn items_of(listing: &Listing) -> impl Iterator<Item = &ItemTree> {
+    listing.sections.iter().flat_map(|section| &section.items)
+}
+
+/// A walk counts the indices, for upstream's counts one more for each further type of a group.
+fn are_counted(bytes: &[u8], listing: &Listing) {
+    let mut walk = Walk::new(bytes, 100).expect("a component");
+    while walk.next().is_some() {}
     for space in Space::ALL {
-        assert_eq!(sections.index_count(space), Ok(listing.count(space)));
+        let count = u128::from(walk.counts().of(space));
+        assert_eq!(count, listing.counts[space.number()], "{space}");
     }
 }
 
@@ -76,7 +64,7 @@ fn are_found(sections: Sections<'_>, listing: &Listing, all: &mut Found) {
 fn are_defined(bytes: &[u8], listing: &Listing) {
     let definitions = Definitions::new(bytes, 100).expect("it is read");
     let mut next = [0u32; 13];
-    for (item, of) in listing.items().zip(definitions.component().definitions()) {
+    for (item, of) in items_of(listing).zip(definitions.component().definitions()) {
         let Meaning::Item(view) = of.meaning() else { panic!("{item:?}") };
         assert!(is_same(view, item), "{item:?}");
         let Some((space, count)) = item.indices() else { continue };
@@ -86,7 +74,7 @@ fn are_defined(bytes: &[u8], listing: &Listing) {
     }
     for space in Space::ALL {
         let index = next[space.number()];
-        assert_eq!(listing.count(space), index.into());
+        assert_eq!(listing.counts[space.number()], index.into());
         assert_eq!(definitions.component().count(space), index.into());
         assert!(definitions.component().get(space, index).is_err());
     }
@@ -133,15 +121,27 @@ fn listed(bytes: &[u8], depth: usize, from: usize) -> Vec<(usize, usize, Vec<Ite
 
 /// Sections of components in others are those of listings of these.
 fn are_nested(bytes: &[u8], all: &mut Found) {
-    let sections = Sections::new(bytes).expect("a component").nested(8);
-    let read = |section: Result<(usize, SectionReader<'_>), ListFault>| {
-        let (depth, section) = section?;
-        let items = section.trees().map(|item| Ok(item?.1)).collect::<Result<Vec<_>, _>>()?;
-        Ok((depth, section.range().start, items))
-    };
-    // some have an item that isn't read in one
-    let found: Result<Vec<_>, ListFault> = sections.map(read).collect();
-    let Ok(found) = found else { return };
+    let mut walk = Walk::new(bytes, 8).expect("a component");
+    let mut found: Vec<(usize, usize, Vec<ItemTree>)> = Vec::new();
+    // the sections around the next step
+    let mut open = vec![0];
+    while let Some(step) = walk.next() {
+        match step {
+            Step::Section(section) => {
+                *open.last_mut().expect("a component") = found.len();
+                found.push((walk.depth(), section.range().start, Vec::new()));
+            }
+            Step::Item(item) | Step::Enter(item) => {
+                found[*open.last().expect("a section")].2.push(item.view.to_tree());
+                if let ItemView::Component(_) = item.view {
+                    open.push(0);
+                }
+            }
+            Step::Leave => _ = open.pop(),
+            // some have an item that isn't read in one
+            _ => return,
+        }
+    }
     assert!(found == listed(bytes, 0, 0));
     all.nested += found.iter().filter(|(depth, ..)| *depth > 0).count();
 }

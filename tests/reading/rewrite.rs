@@ -45,7 +45,7 @@ fn items_are_written_anew() {
         let owned = by_items(&bytes, |made, _, item| made.item(&item).map(|_| ()));
         let borrowed = by_items(&bytes, |made, place, _| {
             let mut items = Items::at(&bytes, made.id(), place, 1).expect("it is within");
-            let (_, view) = items.next().expect("an item").expect("it is read");
+            let view = items.next().expect("an item").expect("it is read").view;
             made.item(&view).map(|_| ())
         });
         let mut anew = Component::new();
@@ -98,7 +98,13 @@ fn a_changed_item_has_neighbours_as_they_stand() {
 /// The only type in a section that has these parts behind the number of its types.
 fn only_type(id: u8, parts: &[&str]) -> ItemTree {
     let bytes = component(&crate::section(id, &bytes(&["01", &parts.concat()].concat())));
-    list(&bytes).expect("it is listed").into_items().next().expect("an item")
+    list(&bytes)
+        .expect("it is listed")
+        .sections
+        .into_iter()
+        .flat_map(|of| of.items)
+        .next()
+        .expect("an item")
 }
 
 /// The values have these bytes.

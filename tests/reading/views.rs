@@ -27,9 +27,9 @@ fn with(id: u8, content: &[u8], check: impl Fn(ItemView<'_>)) {
     let bytes = alone(id, content);
     let items: Result<Vec<_>, _> = Sections::new(&bytes).expect("a component").items().collect();
     let items = items.unwrap_or_else(|fault| panic!("{content:x?}: {fault}"));
-    let [(range, item)] = &items[..] else { panic!("{content:x?}: not one item") };
+    let [Item { range, view, .. }] = &items[..] else { panic!("{content:x?}: not one item") };
     assert_eq!(range.end, bytes.len());
-    check(*item);
+    check(*view);
 }
 
 /// The members of a list are these.
@@ -190,7 +190,7 @@ fn values_are_compared() {
     let bytes: Vec<_> = EACH.iter().map(|(id, content)| alone(*id, content)).collect();
     for bytes in &bytes {
         let mut items = Sections::new(bytes).expect("a component").items();
-        let (_, item) = items.next().expect("an item").expect("it is read");
+        let item = items.next().expect("an item").expect("it is read").view;
         assert!(found.insert(item) && found.contains(&item.clone()), "{item:?}");
     }
     assert_eq!(found.len(), EACH.len());
@@ -234,7 +234,7 @@ fn lists_are_encoded_again() {
     let read = component(&sections);
     let mut builder = ComponentBuilder::default();
     for item in Sections::new(&read).expect("a component").items() {
-        match item.expect("it is read").1 {
+        match item.expect("it is read").view {
             ItemView::Type(TypeView::Func { params, result, .. }) => {
                 builder.type_function(None).1.params(params).result(result);
             }

@@ -17,7 +17,7 @@ fn section(item: &ItemTree) -> Option<&[u8]> {
 /// writes.
 fn written(listing: &Listing, names: &DebugNames) -> ItemTree {
     let (mut builder, mut next) = (ComponentBuilder::default(), [0; 13]);
-    for item in listing.items() {
+    for item in listing.sections.iter().flat_map(|of| &of.items) {
         let name = item.indices().and_then(|(space, count)| {
             let next: &mut u32 = &mut next[space.number()];
             *next += count;
@@ -61,8 +61,9 @@ fn debug_names_are_written_again() {
     let (mut equal, mut but_twice, mut renamed) = (0, 0, 0);
     for (name, bytes) in rebuilt::all() {
         let Ok(listing) = list(&bytes) else { continue };
-        let Some(data) = listing.items().find_map(section) else { continue };
-        let mut names = listing.names();
+        let mut items = listing.sections.iter().flat_map(|of| &of.items);
+        let Some(data) = items.find_map(section) else { continue };
+        let mut names = DebugNames::of(&bytes);
         let again = written(&listing, &names);
         let written = section(&again).expect("it has names");
         if let Some((_, old, new)) = RENAMED.iter().find(|(of, ..)| *of == name) {

@@ -8,7 +8,7 @@ use std::collections::BTreeSet;
 use wenc::scope::{Definition, Definitions, Meaning, Scope as Around, ScopeFault};
 use wenc::tree::{AliasTree, IndexCounts, ItemTree, Scope, Space, UsedIndex};
 use wenc::view::ItemView;
-use wenc::{Alias, ComponentSectionId, Sections};
+use wenc::{Alias, ComponentSectionId, DebugNames, Step, Walk};
 use wenc_calls::by_items::by_items;
 
 /// An index without a definition, and the number of those that its space has.
@@ -134,7 +134,7 @@ fn builtins_that_moved() {
         let bytes = corpus::read(&format!("wasm/{name}.wasm"));
         let definitions = Definitions::past_faults(&bytes, 100, |_| {});
         let (scope, mut named) = (definitions.component(), 0);
-        for (space, index, of) in Sections::new(&bytes).expect("a component").names().iter() {
+        for (space, index, of) in DebugNames::of(&bytes).iter() {
             let found = scope.get(space, index);
             let is_unread = matches!(found, Err(ScopeFault::Unread { .. }));
             assert_eq!(is_unread, space == Space::CoreFuncs && unread.contains(&index), "{of}");
@@ -163,9 +163,17 @@ fn spaces_of_unread_items() {
     let others = b"\0asm\x0d\0\x01\0\x06\x10\x03\x05\0\0\x01a\x02\0\0\x01b\x04\0\0\x01c\
         \x09\x03\0\0\x01";
     for bytes in components.chain([features::known(), others.to_vec()]).chain(random) {
-        for (_, section) in Sections::new(&bytes).expect("a component").nested(100).flatten() {
-            let spaces = section.items().flatten().filter_map(|(_, item)| item.defined_indices());
-            seen.extend(spaces.map(|(space, _)| (section.id(), space)));
+        let mut id = 0;
+        for step in Walk::new(&bytes, 100).expect("a component") {
+            match step {
+                Step::Section(section) => id = section.id(),
+                Step::Item(item) => {
+                    let defined = item.view.defined_indices();
+                    seen.extend(defined.map(|(space, _)| (id, space)));
+                }
+                Step::Leave => _ = seen.insert((4, Space::Components)),
+                _ => {}
+            }
         }
     }
     let unknown = ComponentSectionId::ALL.into_iter().flat_map(|id| {

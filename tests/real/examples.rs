@@ -30,7 +30,7 @@ fn componentized(module: &[u8], signatures: &[&str]) -> Vec<u8> {
 
 /// The items of a component but for custom sections.
 fn items(component: &[u8]) -> Vec<ItemTree> {
-    let items = list(component).expect("it is listed").into_items();
+    let items = list(component).expect("it is listed").sections.into_iter().flat_map(|of| of.items);
     items.filter(|item| !matches!(item, ItemTree::Custom { .. })).collect()
 }
 
@@ -94,12 +94,24 @@ fn a_composed_component_is_valid() {
     assert!(told.contains("expected primitive `u32` found primitive `s32`"), "{told}");
 }
 
+/// The names and the types of imports, and the number of exports.
+fn world(listing: &Listing) -> (Vec<(&NameTree, ComponentTypeRef)>, usize) {
+    let items = || listing.sections.iter().flat_map(|section| &section.items);
+    let import = |item| match item {
+        &ItemTree::Import { ref name, ty } => Some((name, ty)),
+        _ => None,
+    };
+    let is_export = |item: &&ItemTree| matches!(item, ItemTree::Export { .. });
+    (items().filter_map(import).collect(), items().filter(is_export).count())
+}
+
 /// How many imports both have.
 fn shared(one: &Listing, other: &Listing) -> usize {
-    let is_shared = |import: &(&NameTree, ComponentTypeRef)| {
-        other.imports().any(|(name, ty)| name == import.0 && ty.kind() == import.1.kind())
+    let (one, other) = (world(one).0, world(other).0);
+    let is_shared = |import: &&(&NameTree, ComponentTypeRef)| {
+        other.iter().any(|(name, ty)| *name == import.0 && ty.kind() == import.1.kind())
     };
-    one.imports().filter(is_shared).count()
+    one.iter().filter(is_shared).count()
 }
 
 /// Each component of the corpus with the one after it, and with all that import something of the
@@ -122,9 +134,9 @@ fn merged_components_are_valid() {
                 continue;
             };
             let told = list(&made).expect("it is listed");
-            assert_eq!(told.exports().count(), one.exports().count() + other.exports().count());
-            let imports = one.imports().count() + other.imports().count() - shared;
-            assert_eq!(told.imports().count(), imports, "{name} and {of}");
+            let [told, one, other] = [&told, one, other].map(world);
+            assert_eq!(told.1, one.1 + other.1);
+            assert_eq!(told.0.len(), one.0.len() + other.0.len() - shared, "{name} and {of}");
             merged += 1;
             imported_once += shared;
             let Some(told) = linker.as_ref().map(|linker| linker.refuses(&made)) else { continue };
@@ -158,7 +170,8 @@ fn merged_groups_and_nested_components_are_valid() {
     let one = with_groups_and_nested(b'm', 0x40);
     let made = merge::merge(&one, &with_groups_and_nested(b'n', 0x43)).expect("it is merged");
     let listing = list(&made).expect("it is listed");
-    let imports: Vec<_> = listing.imports().map(|(name, ty)| (&*name.name, ty)).collect();
+    let imports: Vec<_> =
+        world(&listing).0.into_iter().map(|(name, ty)| (&*name.name, ty)).collect();
     let module = ComponentTypeRef::Module;
     assert_eq!(imports, [("m", module(2)), ("n", module(5))]);
     let Some(linker) = linker("merged groups") else { return };
@@ -217,7 +230,13 @@ fn components_with_a_renamed_import_have_all_else() {
     let mut renamed = 0;
     for (name, bytes) in corpus::components() {
         let Ok(listing) = list(&bytes) else { continue };
-        let Some((old, new)) = listing.into_items().filter_map(|item| names(&item)).last() else {
+        let Some((old, new)) = listing
+            .sections
+            .into_iter()
+            .flat_map(|of| of.items)
+            .filter_map(|item| names(&item))
+            .last()
+        else {
             continue;
         };
         let other = rename::rename(&bytes, &old, &new).expect("it is renamed");

@@ -11,8 +11,7 @@ use crate::toolchain::{Linker, linker};
 use wenc::tree::{Command, IndexUse, ItemTree, Scope, Space, UsedIndex};
 use wenc::{
     ComponentBuilder, ComponentExportKind as Kind, ComponentTypeRef, ComponentValType, ExportKind,
-    ListFault, Listing, Module, ModuleArg, ModuleType, OutOfRange, PrimitiveValType, RawSection,
-    Sections, list,
+    Listing, Module, ModuleArg, ModuleType, OutOfRange, PrimitiveValType, RawSection, Walk, list,
 };
 use wenc_calls::by_items::by_items;
 
@@ -20,9 +19,8 @@ use wenc_calls::by_items::by_items;
 const LIMIT: usize = 100;
 
 pub fn found(component: &[u8]) -> Vec<OutOfRange> {
-    let sections = Sections::new(component).expect("it is a component");
-    let found: Result<_, ListFault> = sections.out_of_range(LIMIT).collect();
-    found.expect("it is read")
+    let walk = Walk::new(component, LIMIT).expect("it is a component");
+    walk.out_of_range().map(|found| found.expect("it is read")).collect()
 }
 
 /// The values that indices get, by their numbers in the order of the component and of those in it;
@@ -52,22 +50,18 @@ fn with_index(component: &[u8], number: usize, value: u32) -> Vec<u8> {
 
 /// How each index is used in the component and in those in it, in their order.
 fn uses(component: &[u8]) -> Vec<UsedIndex> {
-    let sections = Sections::new(component).expect("it is a component").nested(LIMIT);
     let mut uses = Vec::new();
-    for section in sections {
-        for item in section.expect("it is read").1.items() {
-            item.expect("it is read").1.node().each_index(|used| uses.push(used));
-        }
+    for item in Walk::new(component, LIMIT).expect("it is a component").items() {
+        item.expect("it is read").view.node().each_index(|used| uses.push(used));
     }
     uses
 }
 
 /// Expects that the item at the place has this index.
 fn expect_place(component: &[u8], found: OutOfRange) {
-    let sections = Sections::new(component).expect("it is a component").nested(LIMIT);
-    let items = sections.flat_map(|section| section.expect("it is read").1.items());
+    let items = Walk::new(component, LIMIT).expect("it is a component").items();
     let mut items = items.map(|item| item.expect("it is read"));
-    let (_, item) = items.find(|(range, _)| range.start == found.place).expect("an item");
+    let item = items.find(|item| item.range.start == found.place).expect("an item").view;
     let mut has_it = false;
     item.node().each_index(|used| {
         has_it |= (used.space, used.scope, used.index) == (found.space, found.scope, found.index);
@@ -191,16 +185,18 @@ fn is_moved(name: &str, bytes: &[u8], front: &Listing, linker: Option<&Linker>) 
     let encoded =
         |items: &[ItemTree]| built(&items.iter().cloned().map(Command::from).collect::<Vec<_>>());
     let by = front.counts.map(|count| u32::try_from(count).expect("they are few"));
-    let mut all: Vec<ItemTree> = list(bytes).expect(name).into_items().collect();
+    let mut all: Vec<ItemTree> =
+        list(bytes).expect(name).sections.into_iter().flat_map(|of| of.items).collect();
     let mut indices = 0;
     all.iter_mut().for_each(|item| item.indices_mut(|_| indices += 1));
     renumber(&mut all, |space, index| index + by[space.number()]);
-    let front: Vec<ItemTree> = front.items().cloned().collect();
+    let front: Vec<ItemTree> = front.sections.iter().flat_map(|of| &of.items).cloned().collect();
     let moved = encoded(&[&front[..], &all].concat());
     if let Some(linker) = linker {
         assert_eq!(linker.refuses(&moved), None, "{name}");
     }
-    let mut again: Vec<ItemTree> = list(&moved).expect("it is listed").into_items().collect();
+    let mut again: Vec<ItemTree> =
+        list(&moved).expect("it is listed").sections.into_iter().flat_map(|of| of.items).collect();
     assert_eq!(again.drain(..front.len()).collect::<Vec<_>>(), front, "{name}");
     renumber(&mut again, |space, index| {
         index.checked_sub(by[space.number()]).expect("it was moved")

@@ -82,27 +82,28 @@ impl Seen {
 
     fn component(&mut self, component: &[u8]) {
         let Ok(sections) = Sections::new(component) else { return };
-        self.read(sections.items());
-        self.read(sections.trees());
-        self.read(sections.imports());
-        self.read(sections.exports());
-        self.read(sections.out_of_range(3));
-        self.hinted(sections.names().iter());
-        self.read(sections.nested(0));
-        for (_, section) in self.read(sections.nested(9)) {
-            self.read(section.trees());
-            for (_, item) in self.read(section.items()) {
-                self.lists(item);
-                match item {
-                    ItemView::Module(module) => self.module(module),
-                    ItemView::Custom { name: DebugNames::SECTION, data } => {
-                        self.read(NamesReader::new(data));
+        self.read(sections.clone().items());
+        let Ok(walk) = Walk::new(component, 9) else { return };
+        self.read(walk.clone().out_of_range());
+        self.read(walk.clone().items());
+        self.hinted(DebugNames::of(component).iter());
+        for step in self.hinted(walk) {
+            match step {
+                Step::Section(section) => _ = self.read(section.items()),
+                Step::Item(item) => {
+                    self.lists(item.view);
+                    match item.view {
+                        ItemView::Module(module) => self.module(module),
+                        ItemView::Custom { name: DebugNames::SECTION, data } => {
+                            self.read(NamesReader::new(data));
+                        }
+                        ItemView::Custom { name: ProducersReader::SECTION, data } => {
+                            self.read(ProducersReader::new(data));
+                        }
+                        _ => {}
                     }
-                    ItemView::Custom { name: ProducersReader::SECTION, data } => {
-                        self.read(ProducersReader::new(data));
-                    }
-                    _ => {}
                 }
+                _ => {}
             }
         }
         self.read(sections);
@@ -117,10 +118,7 @@ fn of_whole_components() {
     for (_, bytes) in corpus::components() {
         seen.component(&bytes);
         if let Ok(listing) = list(&bytes) {
-            seen.hinted(listing.items());
-            seen.hinted(listing.imports());
-            seen.hinted(listing.exports());
-            seen.hinted(listing.into_items());
+            seen.hinted(listing.sections.into_iter().flat_map(|of| of.items));
         }
     }
     seen.component(&features::known());

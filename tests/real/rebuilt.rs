@@ -2,7 +2,7 @@
 
 use crate::{corpus, features, random};
 use wenc::tree::{Command, ItemTree, build};
-use wenc::{Component, ComponentBuilder, Encode, ListFault, Listing, list};
+use wenc::{Component, ComponentBuilder, Encode, Listing, Part, list};
 use wenc_calls::by_items::{by_items, sections};
 
 /// The bytes of a component that these commands make, all of which are accepted.
@@ -23,10 +23,13 @@ fn with_nested(mut all: Vec<(String, Vec<u8>)>) -> Vec<(String, Vec<u8>)> {
     while let Some((name, bytes)) = all.get(at) {
         let name = name.clone();
         if let Ok(listing) = list(bytes) {
-            let nested = listing.into_items().filter_map(|item| match item {
-                ItemTree::Component(bytes) => Some((format!("{name}, nested"), bytes)),
-                _ => None,
-            });
+            let nested =
+                listing.sections.into_iter().flat_map(|of| of.items).filter_map(
+                    |item| match item {
+                        ItemTree::Component(bytes) => Some((format!("{name}, nested"), bytes)),
+                        _ => None,
+                    },
+                );
             all.extend(nested);
         }
         at += 1;
@@ -74,7 +77,8 @@ fn by_builder(commands: &[Command]) -> Vec<u8> {
 fn is_made_again(name: &str, text: &[u8], bytes: &[u8]) -> usize {
     let listing = list(text).expect(name);
     let trees = by_trees(&listing);
-    let commands: Vec<Command> = listing.into_items().map(Command::from).collect();
+    let commands: Vec<Command> =
+        listing.sections.into_iter().flat_map(|of| of.items).map(Command::from).collect();
     let ways = [
         ("trees", trees),
         ("commands", built(&commands)),
@@ -129,7 +133,9 @@ fn all_are_made_again() {
                 made += is_made_again(&name, &bytes, &bytes);
                 components += 1;
             }
-            Err(ListFault::BadItem { place, .. }) => told.push(format!("{name} BadItem {place}")),
+            Err(error) if error.part != Part::Section => {
+                told.push(format!("{name} BadItem {}", error.section));
+            }
             Err(fault) => told.push(format!("{name}: {fault}")),
         }
     }

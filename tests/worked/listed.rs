@@ -8,13 +8,15 @@ use wenc::*;
 fn printed(bytes: &[u8]) -> String {
     let listing = match list(bytes) {
         Ok(listing) => listing,
-        Err(ListFault::NotAComponent { place, .. }) => {
-            return format!("NotAComponent at {place}\n");
+        Err(error) => {
+            let case = match (error.part, error.cause) {
+                (Part::Header, _) => "NotAComponent",
+                (Part::Section, _) => "BadSection",
+                (_, Cause::Deep { .. }) => "TooDeep",
+                _ => "BadItem",
+            };
+            return format!("{case} at {}\n", error.section);
         }
-        Err(ListFault::BadSection { place, .. }) => return format!("BadSection at {place}\n"),
-        Err(ListFault::BadItem { place, .. }) => return format!("BadItem at {place}\n"),
-        Err(ListFault::TooDeep { place, .. }) => return format!("TooDeep at {place}\n"),
-        Err(fault) => panic!("{fault:?}"),
     };
     let line = |section: &ListedSection| format!("{} {}\n", section.id, section.items.len());
     let lines: String = listing.sections.iter().map(line).collect();

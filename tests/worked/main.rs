@@ -35,7 +35,8 @@ fn is_listed(bytes: &[u8]) {
     assert_eq!(again.as_slice(), bytes);
     let is_empty = |section: &ListedSection| section.items.is_empty();
     if !listing.sections.iter().any(is_empty) {
-        let commands: Vec<_> = listing.into_items().map(Command::from).collect();
+        let commands: Vec<_> =
+            listing.sections.into_iter().flat_map(|of| of.items).map(Command::from).collect();
         assert_eq!(build(&commands).expect("it is built").bytes.as_slice(), bytes);
     }
 }

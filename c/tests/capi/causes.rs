@@ -6,8 +6,8 @@ use std::ffi::c_char;
 use std::{mem, ptr};
 use wenc::view::ItemView;
 use wenc::{
-    Cause, DebugNames, Items, ListFault, NamesFault, NamesReader, ProducersFault, ProducersReader,
-    Sections, Unread, list,
+    Cause, DebugNames, Item, Items, NamesReader, Part, ProducersReader, ReadError, Sections, Step,
+    list,
 };
 use wenc_calls::by_items::sections;
 use wenc_calls::corpus;
@@ -75,36 +75,30 @@ fn walked(bytes: &[u8]) -> Vec<Reported> {
 }
 
 /// The faults in all sections, by Rust.
-fn faults(bytes: &[u8]) -> Vec<ListFault> {
-    let mut sections = match Sections::new(bytes) {
-        Ok(sections) => sections,
-        Err(fault) => return vec![fault],
+fn faults(bytes: &[u8]) -> Vec<ReadError> {
+    let mut walk = match wenc::Walk::new(bytes, 1) {
+        Ok(walk) => walk,
+        Err(error) => return vec![error],
     };
     let mut found = Vec::new();
-    loop {
-        let mut copy = sections;
-        match sections.next() {
-            None => return found,
-            Some(Ok(section)) => found.extend(section.items().find_map(Result::err)),
-            Some(Err(fault)) => {
-                found.push(fault);
-                if copy.next_raw().is_none() {
-                    return found;
-                }
-                sections = copy;
-            }
+    while let Some(step) = walk.next() {
+        match step {
+            // what is in it isn't read
+            Step::Enter(_) => walk.go_to(usize::MAX),
+            Step::Unread(unread) if walk.depth() == 0 => found.push(unread.error),
+            _ => {}
         }
     }
+    found
 }
 
-/// The status, the section, the part of it and the cause of a fault.
-fn parts(fault: ListFault) -> (Status, usize, Option<Unread>, Option<Cause>) {
-    match fault {
-        ListFault::NotAComponent { place, .. } => (Status::NotAComponent, place, None, None),
-        ListFault::BadSection { place, cause } => (Status::BadSection, place, None, cause),
-        ListFault::BadItem { place, unread, cause, .. } => (Status::BadItem, place, unread, cause),
-        ListFault::TooDeep { place, unread, cause } => (Status::TooDeep, place, unread, cause),
-        fault => panic!("{fault:?}"),
+/// The status of an error.
+fn status(error: ReadError) -> Status {
+    match (error.part, error.cause) {
+        (Part::Header, _) => Status::NotAComponent,
+        (Part::Section, _) => Status::BadSection,
+        (_, Cause::Deep { .. }) => Status::TooDeep,
+        _ => Status::BadItem,
     }
 }
 
@@ -118,6 +112,7 @@ fn stop(cause: Cause) -> (usize, Vec<u8>, &'static str) {
         Cause::Number { place, .. } => (place, Vec::new(), "number"),
         Cause::Few { place, len, .. } => (place + len, Vec::new(), "few"),
         Cause::Deep { place } => (place, Vec::new(), "deep"),
+        Cause::Header(_) => (0, Vec::new(), ""),
         cause => panic!("{cause:?}"),
     }
 }
@@ -129,18 +124,17 @@ fn content(bytes: &[u8], section: usize) -> Option<usize> {
 }
 
 /// What a walk should return for a fault.
-fn reported(bytes: &[u8], fault: ListFault) -> Reported {
-    let (status, section, unread, _) = parts(fault);
-    let next = match unread {
-        Some(Unread::Item { place, .. } | Unread::Behind { place }) => Some(place),
-        None if status == Status::BadSection => content(bytes, section),
+fn reported(bytes: &[u8], error: ReadError) -> Reported {
+    let next = match error.part {
+        Part::Item(_) | Part::Rest => Some(error.offset),
+        Part::Section => content(bytes, error.section),
         _ => None,
     };
-    (status, section, fault.to_string(), next)
+    (status(error), error.section, error.to_string(), next)
 }
 
 /// Reading the whole component returns the first of the faults.
-fn is_listed_so(bytes: &[u8], first: Option<ListFault>) {
+fn is_listed_so(bytes: &[u8], first: Option<ReadError>) {
     let (mut listing, mut row) = (Held::nothing(), UnreadPart::default());
     let status = unsafe { wenc_list(listing.at(), bytes.as_ptr(), bytes.len(), &mut row) };
     assert_eq!(list(bytes).err(), first);
@@ -148,14 +142,14 @@ fn is_listed_so(bytes: &[u8], first: Option<ListFault>) {
         assert_eq!((status, row.cause, row.expected), (Status::Done, 0, [0; 32]));
         return;
     };
-    let (expected_status, section, unread, cause) = parts(fault);
-    let (part, item, place) = match unread {
-        None => (0, 0, section),
-        Some(Unread::Count { place }) => (1, 0, place),
-        Some(Unread::Item { number, place }) => (2, number, place),
-        Some(Unread::Behind { place }) => (3, 0, place),
+    let (section, offset) = (fault.section, fault.offset);
+    let (part, item, place) = match fault.part {
+        Part::Count => (1, 0, offset),
+        Part::Item(number) => (2, number, offset),
+        Part::Rest => (3, 0, offset),
+        _ => (0, 0, section),
     };
-    let (cause, expected, _) = cause.map_or((place, Vec::new(), ""), stop);
+    let (expected_status, (cause, expected, _)) = (self::status(fault), stop(fault.cause));
     assert_eq!((status, row.section, row.place), (expected_status, section, place), "{fault}");
     assert_eq!((row.part, row.item, row.cause), (part, item, cause), "{fault}");
     let is_set = |byte: &u8| row.expected[usize::from(byte / 8)] >> (byte % 8) & 1 == 1;
@@ -170,7 +164,10 @@ fn compare(bytes: &[u8], counts: &mut BTreeMap<&str, usize>) {
     let expected: Vec<Reported> = faults.iter().map(|fault| reported(bytes, *fault)).collect();
     assert_eq!(walked(bytes), expected);
     for fault in faults {
-        let kind = parts(fault).3.map_or("none", |cause| stop(cause).2);
+        let kind = match fault.part {
+            Part::Header | Part::Rest => "none",
+            _ => stop(fault.cause).2,
+        };
         *counts.entry(kind).or_default() += 1;
     }
 }
@@ -182,7 +179,7 @@ pub fn components() -> Vec<Vec<u8>> {
     while let Some(bytes) = left.pop() {
         // some have canonical functions of other versions
         for item in Sections::new(&bytes).expect("a component").items().flatten() {
-            if let (_, ItemView::Component(nested)) = item {
+            if let ItemView::Component(nested) = item.view {
                 left.push(nested.to_vec());
             }
         }
@@ -280,23 +277,16 @@ fn fault_of_item(section: u32, bytes: &[u8]) -> Option<(&'static str, String)> {
     let first = items.next().expect("an item");
     let (name, data) = match (first, items.next()) {
         (Err(fault), _) | (_, Some(Err(fault))) => return Some(("item", fault.to_string())),
-        (Ok((_, ItemView::Custom { name, data })), _) => (name, data),
+        (Ok(Item { view: ItemView::Custom { name, data }, .. }), _) => (name, data),
         _ => return None,
     };
-    let start = bytes.len() - data.len();
+    let moved = |error: ReadError| error.moved(bytes.len() - data.len()).to_string();
     match name {
-        DebugNames::SECTION => match NamesReader::new(data).find_map(Result::err)? {
-            NamesFault::BadSubsection { place, cause } => {
-                let (place, cause) = (start + place, cause.moved(start));
-                Some(("names", NamesFault::BadSubsection { place, cause }.to_string()))
-            }
-            fault => panic!("{fault:?}"),
-        },
+        DebugNames::SECTION => {
+            Some(("names", moved(NamesReader::new(data).find_map(Result::err)?)))
+        }
         ProducersReader::SECTION => {
-            let ProducersFault { place, cause } =
-                ProducersReader::new(data).find_map(Result::err)?;
-            let (place, cause) = (start + place, cause.moved(start));
-            Some(("producers", ProducersFault { place, cause }.to_string()))
+            Some(("producers", moved(ProducersReader::new(data).find_map(Result::err)?)))
         }
         _ => None,
     }
@@ -312,8 +302,8 @@ fn causes_of_items_are_those_of_rust() {
                 id @ (1 | 4) => (id.into(), 0),
                 id => (id.into(), usize::MAX),
             };
-            for (range, _) in section.items().map_while(Result::ok) {
-                let item = &bytes[range];
+            for item in section.items().map_while(Result::ok) {
+                let item = &bytes[item.range];
                 let len = item.len().min(len);
                 let mut damage = vec![item.to_vec()];
                 if len > 0 {
@@ -354,7 +344,7 @@ fn sentences_of_items() {
         (
             0,
             b"\x0ecomponent-name\x01\x02\0\x07",
-            "bad subsection of names at 0xf: \
+            "bad debug names at 0xf: \
              0x07 at 0x12, where 0x00 to 0x04 or 0x10 to 0x12 is expected",
         ),
         (0, b"\x09producers\x01", "bad producers at 0xb: the bytes end at 0xb"),

@@ -6,7 +6,7 @@ use super::walk::{begun, items, next_item, next_section, text};
 use std::collections::{BTreeMap, BTreeSet};
 use std::ffi::c_void;
 use std::{mem, ptr};
-use wenc::tree::{Child, ItemTree, Node, Scope, Space};
+use wenc::tree::{Child, Node, Scope, Space};
 use wenc::view::ItemView;
 use wenc::{Producer, ProducersReader, Sections};
 use wenc_calls::hex;
@@ -84,8 +84,8 @@ fn expect(node: Node, depth: u32, name: Option<&str>, found: &mut Vec<Seen>) {
 }
 
 /// Adds the tools of a producers section, which Rust reads by themselves.
-fn expect_tools(item: &ItemTree, found: &mut Vec<Seen>) -> usize {
-    let ItemTree::Custom { name, data } = item else { return 0 };
+fn expect_tools(item: &ItemView, found: &mut Vec<Seen>) -> usize {
+    let &ItemView::Custom { name, data } = item else { return 0 };
     if name != ProducersReader::SECTION {
         return 0;
     }
@@ -182,16 +182,16 @@ fn nodes_are_those_of_rust() {
     let (mut kinds, mut scopes) = (BTreeMap::new(), BTreeSet::new());
     let (mut read, mut members, mut tools) = (0, 0, 0);
     for component in components().into_iter().chain(worked()) {
-        let trees = Sections::new(&component).expect("a component").trees();
-        let trees: Vec<ItemTree> = trees.map_while(|item| Some(item.ok()?.1)).collect();
+        let views = Sections::new(&component).expect("a component").items();
+        let views: Vec<ItemView> = views.map_while(|item| Some(item.ok()?.view)).collect();
         let (rows, _) = items(&component);
         // a walk continues after what it can't read
-        assert!(rows.len() >= trees.len());
-        for (item, tree) in rows.iter().zip(&trees) {
+        assert!(rows.len() >= views.len());
+        for (item, view) in rows.iter().zip(&views) {
             let (rows, status) = nodes(&begun(&component), item, usize::MAX);
             let mut expected = Vec::new();
-            expect(tree.node(), 0, None, &mut expected);
-            tools += expect_tools(tree, &mut expected);
+            expect(view.node(), 0, None, &mut expected);
+            tools += expect_tools(view, &mut expected);
             assert_eq!(status, Status::Done);
             assert_eq!(rows.iter().map(seen).collect::<Vec<_>>(), expected);
             members += are_in_place(&component, item, &rows);
@@ -361,7 +361,7 @@ fn producers_up_to_a_fault() {
     assert_eq!(rows, [(12, 2), (4, 0), (5, 1), (9, 3), (4, 0), (4, 0), (4, 0)]);
     assert_eq!(status, Status::Malformed);
     let view = Sections::new(section).expect("a component").items().next();
-    assert!(matches!(view, Some(Ok((_, ItemView::Custom { .. })))));
+    assert!(matches!(view, Some(Ok(item)) if matches!(item.view, ItemView::Custom { .. })));
 }
 
 /// In quadratic time, by a walk from the start to each member, this wouldn't end within the time

@@ -213,7 +213,8 @@ fn each_is_read_and_added_again() {
         let places = (item.index, item.section, item.space, item.indices);
         assert_eq!(places, (0, row.id.into(), space, defined), "{}", row.name);
         is_described(&item, &(row.command)(Some(name.as_str().into()), &size));
-        let (mut b, read) = (ComponentBuilder::default(), in_rust.items().next().expect("an item"));
+        let (mut b, read) =
+            (ComponentBuilder::default(), in_rust.sections[0].items.first().expect("an item"));
         let expected = [(); 2].map(|()| Ok(b.item(Some(&name), read).unwrap_or(0)));
         assert_eq!(indices, expected, "{}", row.name);
         let counts = counts::counts(&b);

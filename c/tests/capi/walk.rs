@@ -8,7 +8,7 @@ use std::ops::Range;
 use std::{mem, ptr, slice, str};
 use wenc::tree::{AliasTree, Command, NameOptions, NameTree};
 use wenc::view::ItemView;
-use wenc::{ComponentTypeRef, SectionReader, Sections};
+use wenc::{ComponentTypeRef, DebugNames, SectionReader, Sections};
 use wenc_calls::corpus;
 use wenc_calls::refuse::requested;
 use wenc_capi::arguments::{Name, Text};
@@ -426,7 +426,8 @@ fn copied(bytes: &[u8], rows: &[ItemRow]) -> Vec<u8> {
 /// The component as Rust reads and writes it again.
 fn relisted(bytes: &[u8]) -> Vec<u8> {
     let listing = wenc::list(bytes).expect("a component");
-    let commands: Vec<wenc::tree::Command> = listing.into_items().map(Into::into).collect();
+    let commands: Vec<wenc::tree::Command> =
+        listing.sections.into_iter().flat_map(|of| of.items).map(Into::into).collect();
     wenc::tree::build(&commands).expect("there is memory").bytes
 }
 
@@ -468,14 +469,14 @@ fn names_of_items(rows: &[ItemRow]) -> BTreeMap<(u32, u32), &'static str> {
 /// The rows of a walk are what Rust reads, and so are the debug names. Returns how many items and
 /// names there are.
 fn is_read_as_in_rust(bytes: &[u8], sections: Sections<'_>) -> (usize, usize) {
-    let expected: Vec<_> = sections.items().map_while(Result::ok).collect();
-    let is_whole = sections.items().all(|item| item.is_ok());
+    let expected: Vec<_> = sections.clone().items().map_while(Result::ok).collect();
+    let is_whole = sections.clone().items().all(|item| item.is_ok());
     let (rows, items, status) = walked(bytes);
     assert_eq!((items.len(), status == Status::End), (expected.len(), is_whole));
     let read = sections.map(|read| read.expect("a section"));
     rows.into_iter().zip(read).for_each(|(row, read)| is_section(row, &read));
-    items.iter().zip(expected).for_each(|(row, (range, view))| is_item(row, range, view));
-    let (names, all) = (names_of_items(&items), sections.names());
+    items.iter().zip(expected).for_each(|(row, item)| is_item(row, item.range, item.view));
+    let (names, all) = (names_of_items(&items), DebugNames::of(bytes));
     let of_items = all.iter().map(|(space, index, name)| ((space.number() as u32, index), name));
     let all = of_items.chain(all.component().map(|name| ((13, 0), name)));
     assert!(names.iter().map(|(of, name)| (*of, *name)).eq(all) || !is_whole, "{names:?}");

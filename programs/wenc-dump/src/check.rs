@@ -1,35 +1,7 @@
-//! The indices of the components around an item, and their check.
+//! Indices that are out of range.
 
 use std::fmt::{self, Display};
-use wenc::tree::{IndexCounts, Scope, Scopes, UsedIndex};
-use wenc::view::ItemView;
-
-/// The index counts of components, and the state of the check.
-pub struct Check {
-    is_on: bool,
-    /// What the components around the next item define so far, the outermost first.
-    pub counts: Vec<IndexCounts>,
-    /// The number of indices that were found to be out of range.
-    pub found: usize,
-}
-
-impl Check {
-    pub fn new(is_on: bool) -> Self {
-        Self { is_on, counts: Vec::new(), found: 0 }
-    }
-
-    /// Adds what an item of the innermost component defines.
-    pub fn add(&mut self, item: &ItemView) {
-        if let Some(counts) = self.counts.last_mut() {
-            counts.add(item);
-        }
-    }
-
-    /// Returns the scopes of the next item, if the check is on.
-    pub fn scopes(&self) -> Option<Scopes<'_>> {
-        self.is_on.then(|| Scopes::new(&self.counts))
-    }
-}
+use wenc::tree::{Scope, UsedIndex};
 
 /// An index that is out of range, in words.
 pub struct OutOfRange<'a>(pub &'a UsedIndex);

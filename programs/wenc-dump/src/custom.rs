@@ -1,13 +1,11 @@
 //! Walks through custom sections.
 
-use super::cause::Cause;
-use super::fault::{Fault, Kind};
 use super::report::{Contents, Entry, Part};
 use super::walk::Walk;
 use std::io;
 use std::ops::Range;
 use wenc::view::ItemView;
-use wenc::{DebugNames, NamesFault, ProducersFault, ProducersReader};
+use wenc::{DebugNames, ProducersReader};
 
 impl Contents {
     /// Returns the contents of a custom section with this name.
@@ -54,12 +52,8 @@ impl Walk<'_, '_> {
         }
         match read {
             Ok(()) => Ok(()),
-            Err(NamesFault::BadSubsection { place, cause }) => {
-                let cause = Some(Cause::Read(cause.moved(data.start)));
-                let fault = Fault::new(Kind::Names, data.start + place, cause);
-                self.unread(fault, data.end, true)
-            }
-            Err(_) => Err(io::ErrorKind::OutOfMemory.into()),
+            Err(error) if error.is_memory() => Err(io::ErrorKind::OutOfMemory.into()),
+            Err(error) => self.unread(error.moved(data.start).into(), data.end, true),
         }
     }
 
@@ -68,10 +62,8 @@ impl Walk<'_, '_> {
         for tool in ProducersReader::new(data) {
             match tool {
                 Ok(tool) => self.entry(Entry::Tool(tool))?,
-                Err(ProducersFault { place, cause }) => {
-                    let cause = Some(Cause::Read(cause.moved(start)));
-                    let fault = Fault::new(Kind::Producers, start + place, cause);
-                    self.unread(fault, start + data.len(), true)?;
+                Err(error) => {
+                    self.unread(error.moved(start).into(), start + data.len(), true)?;
                 }
             }
         }

@@ -1,6 +1,5 @@
 //! A report as JSON: a line for each file.
 
-use super::cause::Cause;
 use super::fault::Fault;
 use super::report::{Content, Contents, Entry, Label, Part, Report, Rest};
 use super::walk::DEPTH;
@@ -117,11 +116,11 @@ impl<'o> Json<'o> {
     }
 
     /// Writes the cause of a fault, if it is known.
-    fn cause(&mut self, cause: Option<Cause>) -> io::Result<()> {
-        let Some(cause) = cause else { return Ok(()) };
+    fn cause(&mut self, cause: Option<(usize, String)>) -> io::Result<()> {
+        let Some((place, words)) = cause else { return Ok(()) };
         self.put(",\"cause\":")?;
-        self.field("{", "place", Some(cause.place()))?;
-        self.field(",", "message", Some(Quoted(cause)))?;
+        self.field("{", "place", Some(place))?;
+        self.field(",", "message", Some(Quoted(words)))?;
         self.put("}")
     }
 
@@ -364,7 +363,7 @@ impl Report for Json<'_> {
             Some(fault) => {
                 self.field("{", "place", fault.place)?;
                 self.field(",", "message", Some(Quoted(fault)))?;
-                self.cause(fault.cause)?;
+                self.cause(fault.cause())?;
                 self.put("}")?;
             }
         }

@@ -4,7 +4,6 @@
 
 mod arguments;
 mod buffer;
-mod cause;
 mod check;
 mod colours;
 mod custom;

@@ -1,6 +1,5 @@
 //! Walks through a core module, part by part.
 
-use super::cause::{self, Cause};
 use super::fault::{Fault, Kind};
 use super::phrase;
 use super::report::{Content, Contents, Core, Part};
@@ -9,7 +8,7 @@ use super::words;
 use std::io;
 use std::ops::Range;
 use wenc::tree::{CoreEntityType, IndexCounts, Space};
-use wenc::{CoreItem, CoreSection, CoreSections, ModuleFault, SectionId};
+use wenc::{CoreItem, CoreSection, CoreSections, Part as Unreadable, ReadError, SectionId};
 
 /// Returns the space in which an item has an index, if any.
 fn space(item: &CoreItem) -> Option<Space> {
@@ -33,13 +32,7 @@ impl Walk<'_, '_> {
     pub(super) fn module(&mut self, at: usize, bytes: &[u8]) -> io::Result<()> {
         match CoreSections::new(bytes) {
             Ok(sections) => self.core_sections(at..at + bytes.len(), sections),
-            Err(fault) => {
-                let cause = match fault {
-                    ModuleFault::NotAModule { found } => cause::of_header(at, found, bytes),
-                    _ => None,
-                };
-                self.unread(Fault::of_module(at, fault, cause), at + bytes.len(), false)
-            }
+            Err(error) => self.unread(error.moved(at).into(), at + bytes.len(), false),
         }
     }
 
@@ -56,15 +49,12 @@ impl Walk<'_, '_> {
         while let Some(section) = sections.next() {
             match (section, here.next_raw()) {
                 (Ok(section), _) => self.core_section(at, &section, None, &mut counts)?,
-                (Err(ModuleFault::BadSection { cause, .. }), Some((range, raw))) => {
+                (Err(error), Some((range, raw))) => {
                     let section = CoreSection { id: raw.id, name: None, data: raw.data, range };
-                    let cause = Some(Cause::Read(cause.moved(at)));
-                    self.core_section(at, &section, cause, &mut counts)?;
+                    self.core_section(at, &section, Some(error.moved(at)), &mut counts)?;
                     sections = here.clone();
                 }
-                (Err(fault), _) => {
-                    self.unread(Fault::of_module(at, fault, None), module.end, false)?
-                }
+                (Err(error), _) => self.unread(error.moved(at).into(), module.end, false)?,
             }
         }
         Ok(())
@@ -76,7 +66,7 @@ impl Walk<'_, '_> {
         &mut self,
         at: usize,
         section: &CoreSection,
-        no_name: Option<Cause>,
+        no_name: Option<ReadError>,
         counts: &mut IndexCounts,
     ) -> io::Result<()> {
         let are_shown = are_shown(section);
@@ -90,11 +80,11 @@ impl Walk<'_, '_> {
             count: section.count(),
             core: Some(Core { name: section.name, contents, bytes }),
         })?;
-        if no_name.is_some() {
-            self.unread(Fault::new(Kind::NoName, range.start, no_name), range.end, true)?;
+        if let Some(error) = no_name {
+            self.unread(error.into(), range.end, true)?;
         }
         if section.kind().is_none() {
-            let fault = Fault::new(Kind::UnknownSection(section.id), range.start, None);
+            let fault = Fault::new(Kind::UnknownSection(section.id), range.start);
             self.unread(fault, range.end, true)?;
         }
         if contents == Contents::Producers {
@@ -103,12 +93,11 @@ impl Walk<'_, '_> {
         for item in section.items() {
             match item {
                 Ok((range, item)) => self.core_item(at, section, range, &item, counts)?,
-                Err(fault) => {
-                    let fault = Fault::of_module(at, fault, None);
-                    if !fault.is_after_items() {
+                Err(error) => {
+                    if error.part != Unreadable::Rest {
                         counts.add_unknown();
                     }
-                    self.unread(fault, range.end, !are_shown)?;
+                    self.unread(error.moved(at).into(), range.end, !are_shown)?;
                 }
             }
         }
@@ -127,7 +116,7 @@ impl Walk<'_, '_> {
         let data_start = section.range.end - section.data.len();
         self.report.open(&Part::Item {
             range: at + range.start..at + range.end,
-            label: space(item).map(|space| label(Some(counts), space, 1, None)),
+            label: space(item).map(|space| label(counts, space, 1, None)),
             content: Content::Node(&phrase::of_item(item.node()), &[]),
             bytes: &section.data[range.start - data_start..range.end - data_start],
         })?;

@@ -30,6 +30,7 @@ pub fn fields_of<'a>(
             ("Import", 0, _) => "import",
             ("Export", 0, _) => "export",
             ("Export", _, "ty") => "as",
+            ("NameTree", 1.., _) => key,
             _ => "",
         };
         match child.node() {

@@ -14,7 +14,7 @@ use std::ffi::{OsStr, OsString};
 use std::fmt::{self, Write as _};
 use std::fs;
 use std::io::{self, Read, Write};
-use wenc::ListFault;
+use wenc::Part;
 use wenc::scope::Definitions;
 
 /// The streams that the program reads and writes.
@@ -149,9 +149,9 @@ fn wit(
         }
     };
     let mut is_component = true;
-    let definitions = Definitions::past_faults(&bytes, DEPTH, |fault| {
-        is_component &= !matches!(fault, ListFault::NotAComponent { place: 0, .. });
-        on_fault(&fault.into());
+    let definitions = Definitions::past_faults(&bytes, DEPTH, |error| {
+        is_component &= (error.part, error.offset) != (Part::Header, 0);
+        on_fault(&error.into());
     });
     let (text, unwritten) = Wit::of(&definitions);
     if is_component {

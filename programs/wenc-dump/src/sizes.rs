@@ -3,7 +3,7 @@
 use std::ops::Range;
 use std::{io, iter};
 use wenc::view::ItemView;
-use wenc::{Cause, ComponentSectionId, CoreSections, ListFault, SectionReader, Sections};
+use wenc::{Cause, ComponentSectionId, CoreSections, Part, SectionReader, Sections};
 
 /// The maximum number of bytes by which a size is taken to be wrong.
 const MOST: usize = 4;
@@ -34,9 +34,9 @@ fn content(bytes: &[u8], place: usize) -> Option<Range<usize>> {
 /// components, only the header is read.
 fn whole(bytes: &[u8], place: usize) -> Option<SectionReader<'_>> {
     let section = Sections::at(bytes, place)?.next()?.ok()?;
-    let is_read = section.items().all(|item| match item {
-        Ok((_, ItemView::Module(bytes))) => CoreSections::new(bytes).is_ok(),
-        Ok((_, ItemView::Component(bytes))) => Sections::new(bytes).is_ok(),
+    let is_read = section.items().all(|item| match item.map(|item| item.view) {
+        Ok(ItemView::Module(bytes)) => CoreSections::new(bytes).is_ok(),
+        Ok(ItemView::Component(bytes)) => Sections::new(bytes).is_ok(),
         item => item.is_ok(),
     });
     is_read.then_some(section)
@@ -56,8 +56,8 @@ fn is_filled(bytes: &[u8], place: usize) -> bool {
 /// Returns whether the section at this byte offset has too few bytes.
 fn is_cut(bytes: &[u8], place: usize) -> bool {
     let next = Sections::at(bytes, place).and_then(|mut sections| sections.next());
-    let Some(Err(ListFault::BadSection { cause, .. })) = next else { return false };
-    matches!(cause, Some(Cause::Few { .. }))
+    let Some(Err(error)) = next else { return false };
+    error.part == Part::Section && matches!(error.cause, Cause::Few { .. })
 }
 
 /// Returns, for each byte offset from this one on, whether the sections from there reach the end.

@@ -1,7 +1,5 @@
 //! Walks through a file, part by part.
 
-use super::cause::{self, Cause};
-use super::check::Check;
 use super::fault::{Fault, Kind};
 use super::phrase;
 use super::report::{Content, Contents, Label, Part, Report, Rest};
@@ -11,10 +9,20 @@ use std::io;
 use std::ops::Range;
 use wenc::tree::{IndexCounts, Space};
 use wenc::view::ItemView;
-use wenc::{CoreSections, DebugNames, ListFault, SectionReader, Sections};
+use wenc::{CoreSections, DebugNames, Item, Part as Unreadable, Step, Unread, Walk as Steps};
 
-/// The maximum nesting depth of components, which is that of types.
-pub const DEPTH: usize = 100;
+/// The maximum number of components around one, as of types.
+pub const DEPTH: usize = 99;
+
+/// A component whose sections are reported.
+struct Level {
+    end: usize,
+    /// A section with a wrong size, from the first section on.
+    wrong_size: Option<Option<WrongSize>>,
+    has_open_section: bool,
+    /// Whether the section has a wrong size, so that other faults in it are ignored.
+    is_wrong: bool,
+}
 
 /// A walk through a file.
 pub struct Walk<'f, 'r> {
@@ -25,19 +33,19 @@ pub struct Walk<'f, 'r> {
     on_fault: &'r mut dyn FnMut(Fault),
     /// The debug names of the components around the next part, the outermost first.
     names: Vec<DebugNames>,
-    /// Whether the next part is in a section with a wrong size, whose other faults are ignored.
-    is_in_wrong_size: bool,
-    check: Check,
+    levels: Vec<Level>,
+    /// Whether indices are checked, and how many were found to be out of range.
+    check: Option<usize>,
 }
 
 /// Returns the label of the next indices of a space, which have these debug names.
 pub(super) fn label<'a>(
-    counts: Option<&IndexCounts>,
+    counts: &IndexCounts,
     space: Space,
     count: u32,
     names: Option<&'a DebugNames>,
 ) -> Label<'a> {
-    let from = counts.map(|counts| counts.of(space)).filter(|from| *from < u64::MAX);
+    let from = Some(counts.of(space)).filter(|from| *from < u64::MAX);
     let index = from.and_then(|from| u32::try_from(from).ok()).filter(|_| count > 0);
     let name = names.zip(index).and_then(|(names, index)| names.get(space, index));
     Label { space, from, count, name }
@@ -55,40 +63,30 @@ pub fn walk(
     report: &mut dyn Report,
     on_fault: &mut dyn FnMut(Fault),
 ) -> io::Result<()> {
-    let check = Check::new(has_check);
-    let mut walk =
-        Walk { bytes, report, on_fault, names: Vec::new(), is_in_wrong_size: false, check };
+    let check = has_check.then_some(0);
+    let mut walk = Walk { bytes, report, on_fault, names: Vec::new(), levels: Vec::new(), check };
     if let Ok(sections) = CoreSections::new(bytes) {
         walk.report.open(&Part::File(0..bytes.len(), Content::Module))?;
         walk.core_sections(0..bytes.len(), sections)?;
         return walk.report.close();
     }
-    match Sections::new(bytes) {
-        Ok(sections) => walk.component(sections),
-        Err(fault) => walk.fault(walk.of_header(fault, bytes.len())),
+    match Steps::new(bytes, DEPTH) {
+        Ok(steps) => walk.component(steps),
+        Err(error) if error.is_memory() => Err(io::ErrorKind::OutOfMemory.into()),
+        Err(error) => walk.fault(error.into()),
     }
 }
 
 /// Returns the debug names of a component.
-fn names_of(sections: Sections) -> io::Result<DebugNames> {
-    sections.try_names().map_err(|_| io::ErrorKind::OutOfMemory.into())
+fn names_of(component: &[u8]) -> io::Result<DebugNames> {
+    DebugNames::try_of(component).map_err(|_| io::ErrorKind::OutOfMemory.into())
 }
 
 impl<'f> Walk<'f, '_> {
-    /// Notes that a section of the innermost component with this id, or an item of it, can't be
-    /// read.
-    fn note(&mut self, section: u8, fault: &Fault) {
-        match (self.check.counts.last_mut(), section.try_into()) {
-            (Some(counts), Ok(section)) if !fault.is_after_items() => counts.add_unread(section),
-            (Some(counts), Err(_)) => counts.add_unknown(),
-            _ => {}
-        }
-    }
-
     /// Calls `on_fault` after writing the report so far, unless the fault is in a section with a
     /// wrong size.
     fn fault(&mut self, fault: Fault) -> io::Result<()> {
-        if !self.is_in_wrong_size {
+        if !self.levels.iter().any(|level| level.is_wrong) {
             self.report.flush()?;
             (self.on_fault)(fault);
         }
@@ -110,184 +108,143 @@ impl<'f> Walk<'f, '_> {
         self.fault(fault)
     }
 
-    /// Returns the fault of the header of a component that ends at this byte offset.
-    fn of_header(&self, fault: ListFault, end: usize) -> Fault {
-        let mut converted = Fault::from(fault);
-        if let ListFault::NotAComponent { place, found } = fault {
-            converted.cause = cause::of_header(place, found, &self.bytes[place..end]);
-        }
-        converted
-    }
-
     /// Reports the file, a component.
-    fn component(&mut self, sections: Sections<'f>) -> io::Result<()> {
-        let names = names_of(sections)?;
+    fn component(&mut self, mut steps: Steps<'f>) -> io::Result<()> {
+        let names = names_of(self.bytes)?;
         let range = 0..self.bytes.len();
-        self.report.open(&Part::File(range, Content::Component(names.component())))?;
-        self.sections(sections, self.bytes.len(), names)?;
-        self.report.close()?;
-        if self.check.found > 0 {
-            self.fault(Kind::OutOfRange(self.check.found).into())?;
+        self.report.open(&Part::File(range.clone(), Content::Component(names.component())))?;
+        self.begin(names, range.end)?;
+        while let Some(step) = steps.next() {
+            match step {
+                Step::Section(section) => {
+                    self.begin_section(section.range().start, &mut steps)?;
+                    self.open_section(section.range(), section.id(), Some(section.count()))?;
+                }
+                Step::Item(item) => self.item(&item, &steps)?,
+                Step::Enter(item) => self.nested(&item, &steps)?,
+                Step::Leave => self.end()?,
+                Step::Unread(unread) => self.pass(unread, &mut steps)?,
+                _ => {}
+            }
         }
-        Ok(())
+        self.end()?;
+        match self.check {
+            None | Some(0) => Ok(()),
+            Some(found) => self.fault(Kind::OutOfRange(found).into()),
+        }
     }
 
-    /// Reports the sections of a component that ends at this byte offset and has these debug names.
-    fn sections(
-        &mut self,
-        sections: Sections<'f>,
-        end: usize,
-        names: DebugNames,
-    ) -> io::Result<()> {
+    /// Begins a component that ends at this byte offset and has these debug names.
+    fn begin(&mut self, names: DebugNames, end: usize) -> io::Result<()> {
         self.names.try_reserve(1)?;
         self.names.push(names);
-        self.check.counts.try_reserve(1)?;
-        self.check.counts.push(IndexCounts::default());
-        let bytes = &self.bytes[..end];
-        let wrong_size = sections.offset().map_or(Ok(None), |from| wrong_size(bytes, from))?;
-        self.sections_to(sections, end, wrong_size)?;
-        if let Some(rest) = wrong_size.and_then(|wrong_size| Sections::at(bytes, wrong_size.end)) {
-            self.sections_to(rest, end, None)?;
-        }
-        self.check.counts.pop();
+        let level = Level { end, wrong_size: None, has_open_section: false, is_wrong: false };
+        self.levels.try_reserve(1)?;
+        self.levels.push(level);
+        Ok(())
+    }
+
+    /// Ends the innermost component.
+    fn end(&mut self) -> io::Result<()> {
+        self.end_section()?;
+        self.levels.pop();
         self.names.pop();
-        Ok(())
+        self.report.close()
     }
 
-    /// Reports sections of a component that ends at this byte offset, up to one with a wrong size
-    /// if there is one.
-    fn sections_to(
-        &mut self,
-        mut sections: Sections<'f>,
-        end: usize,
-        wrong_size: Option<WrongSize>,
-    ) -> io::Result<()> {
-        let mut here = sections;
-        while let Some(section) = sections.next() {
-            let frame = here.next_raw();
-            let start = frame.as_ref().map(|(range, _)| range.start);
-            let is_in_wrong_size = self.is_in_wrong_size;
-            let wrong_size = wrong_size.filter(|wrong_size| start == Some(wrong_size.place));
-            if let Some(wrong_size) = wrong_size {
-                self.fault(Fault::new(Kind::Size(wrong_size), wrong_size.place, None))?;
-                self.is_in_wrong_size = true;
-            }
-            match (section, frame) {
-                (Ok(section), _) => self.section(section)?,
-                (Err(fault), None) => self.unread(fault.into(), end, false)?,
-                (Err(fault), Some((range, raw))) => {
-                    self.unread_section(range, raw.id, fault)?;
-                    sections = here;
-                }
-            }
-            self.is_in_wrong_size = is_in_wrong_size;
-            if wrong_size.is_some() {
-                break;
-            }
+    /// Ends the section before the next one, at this byte offset, and goes on after a likelier end
+    /// if that has a wrong size.
+    fn begin_section(&mut self, place: usize, steps: &mut Steps) -> io::Result<()> {
+        self.end_section()?;
+        let Some(level) = self.levels.last_mut() else { return Ok(()) };
+        let wrong = match level.wrong_size {
+            Some(wrong) => wrong,
+            None => *level.wrong_size.insert(wrong_size(&self.bytes[..level.end], place)?),
+        };
+        if let Some(wrong) = wrong.filter(|wrong| wrong.place == place) {
+            level.wrong_size = Some(None);
+            steps.go_to(wrong.end);
+            self.fault(Fault::new(Kind::Size(wrong), place))?;
+            self.levels.iter_mut().last().into_iter().for_each(|level| level.is_wrong = true);
         }
         Ok(())
     }
 
-    /// Reports a section whose items can't be read.
-    fn unread_section(&mut self, range: Range<usize>, id: u8, fault: ListFault) -> io::Result<()> {
-        let fault = match fault {
-            ListFault::BadSection { place, .. } => {
-                Fault::new(Kind::UnknownSection(id), place, None)
-            }
-            fault => fault.into(),
-        };
-        let (end, word) = (range.end, words::section(id));
-        self.report.open(&Part::Section { range, id, word, count: None, core: None })?;
-        self.note(id, &fault);
-        self.unread(fault, end, false)?;
-        self.report.close()
+    fn open_section(&mut self, range: Range<usize>, id: u8, count: Option<u32>) -> io::Result<()> {
+        self.levels.iter_mut().last().into_iter().for_each(|level| level.has_open_section = true);
+        self.report.open(&Part::Section { range, id, word: words::section(id), count, core: None })
     }
 
-    fn section(&mut self, section: SectionReader<'f>) -> io::Result<()> {
-        let (range, id, count) = (section.range(), section.id(), Some(section.count()));
-        let word = words::section(id);
-        self.report.open(&Part::Section { range, id, word, count, core: None })?;
-        for item in section.items() {
-            match item {
-                Ok((range, ItemView::Component(_))) => self.nested(range, section)?,
-                Ok((range, item)) => self.item(range, &item)?,
-                Err(ListFault::NoMemory) => return Err(io::ErrorKind::OutOfMemory.into()),
-                Err(fault) => {
-                    let fault = match fault {
-                        ListFault::BadSection { place, cause } => {
-                            Fault::new(Kind::NoName, place, cause.map(Cause::Read))
-                        }
-                        fault => fault.into(),
-                    };
-                    self.note(id, &fault);
-                    self.unread(fault, section.range().end, false)?;
+    fn end_section(&mut self) -> io::Result<()> {
+        let Some(level) = self.levels.last_mut() else { return Ok(()) };
+        let is_open = level.has_open_section;
+        (level.has_open_section, level.is_wrong) = (false, false);
+        if is_open { self.report.close() } else { Ok(()) }
+    }
+
+    /// Reports what the walk passes over.
+    fn pass(&mut self, Unread { error, range, .. }: Unread, steps: &mut Steps) -> io::Result<()> {
+        if error.is_memory() {
+            return Err(io::ErrorKind::OutOfMemory.into());
+        }
+        // a section of which nothing is read
+        if range.start == error.section
+            && !matches!(error.part, Unreadable::Header | Unreadable::Depth)
+        {
+            match error.id {
+                None => self.end_section()?,
+                Some(id) => {
+                    self.begin_section(range.start, steps)?;
+                    self.open_section(range.clone(), id, None)?;
                 }
             }
         }
-        self.report.close()
+        self.unread(error.into(), range.end, error.part == Unreadable::Depth)
     }
 
-    /// Reports a nested component.
-    fn nested(&mut self, range: Range<usize>, section: SectionReader<'f>) -> io::Result<()> {
-        let place = range.start;
-        let sections = section.component();
-        let own = match sections {
-            Ok(Some(sections)) => names_of(sections)?,
-            _ => DebugNames::new(),
-        };
-        let label = Some(label(self.check.counts.last(), Space::Components, 1, self.names.last()));
-        let (content, end) = (Content::Component(own.component()), range.end);
+    /// Begins a nested component.
+    fn nested(&mut self, item: &Item<'f>, steps: &Steps) -> io::Result<()> {
+        let ItemView::Component(bytes) = item.view else { return Ok(()) };
+        let (own, range) = (names_of(bytes)?, item.range.clone());
+        let label = Some(label(steps.counts(), Space::Components, 1, self.names.last()));
+        let content = Content::Component(own.component());
         self.report.open(&Part::Item { range, label, content, bytes: &[] })?;
-        match sections {
-            _ if self.names.len() == DEPTH => {
-                self.unread(Fault::new(Kind::TooDeep, place, None), end, true)?;
-            }
-            Ok(Some(sections)) => self.sections(sections, end, own)?,
-            Ok(None) => {}
-            Err(fault) => self.unread(self.of_header(fault, end), end, false)?,
-        }
-        self.check.add(&ItemView::Component(&[]));
-        self.report.close()
+        self.begin(own, item.range.end)
     }
 
     /// Reports the indices of an item at this byte offset that are out of range, if wanted.
-    fn check_item(&mut self, place: usize, item: &ItemView) -> io::Result<()> {
-        let Some(scopes) = self.check.scopes() else { return Ok(()) };
-        let mut found = 0;
-        item.node_in(&scopes).try_each_index(|used| match used.count {
+    fn check_item(&mut self, item: &Item, steps: &Steps) -> io::Result<()> {
+        let Some(found) = &mut self.check else { return Ok(()) };
+        item.view.node_in(&steps.scopes()).try_each_index(|used| match used.count {
             None => Ok(()),
             Some(_) => {
-                found += 1;
-                self.report.out_of_range(place, &used)
+                *found += 1;
+                self.report.out_of_range(item.range.start, &used)
             }
-        })?;
-        self.check.found += found;
-        Ok(())
+        })
     }
 
     /// Reports an item that isn't a component.
-    fn item(&mut self, range: Range<usize>, item: &ItemView) -> io::Result<()> {
-        let names = self.names.last();
-        let counts = self.check.counts.last();
-        let label = item.defined_indices().map(|(space, count)| label(counts, space, count, names));
+    fn item(&mut self, item: &Item, steps: &Steps) -> io::Result<()> {
+        let (range, view, names) = (item.range.clone(), &item.view, self.names.last());
+        let defined = view.defined_indices();
+        let label = defined.map(|(space, count)| label(steps.counts(), space, count, names));
         let bytes = &self.bytes[range.clone()];
-        let scopes = self.check.scopes();
-        let node = scopes.as_ref().map_or_else(|| item.node(), |scopes| item.node_in(scopes));
+        let scopes = self.check.is_some().then(|| steps.scopes());
+        let node = scopes.as_ref().map_or_else(|| view.node(), |scopes| view.node_in(scopes));
         let node = phrase::of_item(node);
-        let (content, shown) = match item {
+        let (content, shown) = match view {
             ItemView::Module(_) => (Content::Module, &[][..]),
             ItemView::Custom { name, data } => {
                 (Content::Custom(name, data.len(), Contents::of(name)), bytes)
             }
             _ => (Content::Node(&node, &self.names), bytes),
         };
-        let part = Part::Item { range: range.clone(), label, content, bytes: shown };
-        self.report.open(&part)?;
-        self.check_item(range.start, item)?;
-        self.check.add(item);
-        match item {
+        self.report.open(&Part::Item { range: range.clone(), label, content, bytes: shown })?;
+        self.check_item(item, steps)?;
+        match view {
             ItemView::Module(_) => self.module(range.start, bytes)?,
-            ItemView::Custom { .. } => self.custom(item, range.end)?,
+            ItemView::Custom { .. } => self.custom(view, range.end)?,
             _ => {}
         }
         self.report.close()

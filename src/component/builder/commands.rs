@@ -26,11 +26,10 @@ impl ComponentBuilder {
         /// let component = b"\0asm\x0d\0\x01\0\x07\x05\x01\x40\0\x01\0\x0a\x06\x01\0\x01f\x01\0";
         /// let mut builder = ComponentBuilder::default();
         /// for item in Sections::new(component)?.items() {
-        ///     let (_, item) = item?;
-        ///     assert_eq!(builder.item(None, &item), Some(0));
+        ///     assert_eq!(builder.item(None, &item?.view), Some(0));
         /// }
         /// assert_eq!(builder.finish(), component);
-        /// # Ok::<(), wenc::ListFault>(())
+        /// # Ok::<(), wenc::ReadError>(())
         /// ```
         fn item | try_item(
             &mut self,

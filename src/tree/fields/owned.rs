@@ -1,20 +1,18 @@
 //! The fields of owned types, and their indices, which may be changed.
 
+use super::Place;
 use super::shape::{Kind, Role, Shape, Values};
-use super::values::leaves;
-use super::{Named, Node, OwnedElements, Place, Refs, Tree, Whole, named};
 use crate::shim::vec::VecUsing;
 use crate::tree::indices::{IndexUse, Visitor};
-use crate::tree::node::{Child, Fields, List};
 use crate::tree::{
-    AllocError, Box, CoreArrayType, CoreFuncType, CoreHeapType, CoreRefType, CoreValType, Global,
-    Space,
+    AllocError, Box, CoreArrayType, CoreFuncType, CoreHeapType, CoreRefType, CoreStructType,
+    CoreValType, Global, NameTree, Space,
 };
 use alloc::string::String;
 use alloc::vec::Vec;
 
 /// An owned value, whose indices may be changed.
-pub(in crate::tree) trait TreeMut: Tree {
+pub(in crate::tree) trait TreeMut {
     /// Sets the values of the fields, and returns the shape; or sets what may have indices without
     /// one.
     fn shape_mut<'n>(&'n mut self, _: &mut Muts<'n>) -> Option<&'static Shape> {
@@ -64,15 +62,12 @@ pub(in crate::tree) fn each_index(
     }
 }
 
-leaves! {
-    String, text, _ => Node::Text(text);
-    Vec<u8>, bytes, _ => Node::Bytes(bytes);
-}
-
 impl TreeMut for bool {}
 impl TreeMut for u64 {}
 impl TreeMut for String {}
 impl TreeMut for Vec<u8> {}
+// It has no index.
+impl TreeMut for NameTree {}
 
 impl Unshaped for u32 {
     fn visit(&mut self, place: Place<'_>, visitor: &mut Visitor<'_>) {
@@ -85,22 +80,6 @@ impl Unshaped for u32 {
 impl TreeMut for u32 {
     fn shape_mut<'n>(&'n mut self, values: &mut Muts<'n>) -> Option<&'static Shape> {
         values.without_shape(self)
-    }
-}
-
-impl<T: Tree> Tree for Vec<T> {
-    fn shape<'n>(&'n self, place: Place<'n>, values: &mut Refs<'n>) -> Option<&'static Shape> {
-        values.without_shape(Node::List(List::owned(self, place)))
-    }
-}
-
-impl<T: Tree> OwnedElements for Vec<T> {
-    fn len(&self) -> usize {
-        self.as_slice().len()
-    }
-
-    fn at(&self, number: usize) -> &dyn Tree {
-        &self[number]
     }
 }
 
@@ -130,25 +109,19 @@ impl<T: TreeMut> TreeMut for Option<T> {
     }
 }
 
-impl<T: Tree> Tree for Box<T> {
-    fn shape<'n>(&'n self, place: Place<'n>, values: &mut Refs<'n>) -> Option<&'static Shape> {
-        (**self).shape(place, values)
-    }
-}
-
 impl<T: TreeMut> TreeMut for Box<T> {
     fn shape_mut<'n>(&'n mut self, values: &mut Muts<'n>) -> Option<&'static Shape> {
         (**self).shape_mut(values)
     }
 }
 
-impl<N: Tree, T: TreeMut> TreeMut for (N, T) {
+impl<N, T: TreeMut> TreeMut for (N, T) {
     fn shape_mut<'n>(&'n mut self, values: &mut Muts<'n>) -> Option<&'static Shape> {
         Some(values.one(&INNER, &mut self.1))
     }
 }
 
-impl<N: Tree, K: Tree + Copy + Into<Space>> TreeMut for (N, K, u32) {
+impl<N, K: Copy + Into<Space>> TreeMut for (N, K, u32) {
     fn shape_mut<'n>(&'n mut self, values: &mut Muts<'n>) -> Option<&'static Shape> {
         let (_, kind, index) = self;
         values.outer = (0, (*kind).into());
@@ -162,18 +135,9 @@ impl TreeMut for CoreArrayType {
     }
 }
 
-impl Tree for CoreFuncType {
-    fn shape<'n>(&'n self, place: Place<'n>, values: &mut Refs<'n>) -> Option<&'static Shape> {
-        values.without_shape(Node::Record("CoreFuncType", Fields::whole(self, place)))
-    }
-}
-
-impl Whole for CoreFuncType {
-    fn fields<'n>(&'n self, place: Place<'n>) -> Named<'n> {
-        named(&[
-            ("params", Child::types(self.params(), place)),
-            ("results", Child::types(self.results(), place)),
-        ])
+impl TreeMut for CoreStructType {
+    fn shape_mut<'n>(&'n mut self, values: &mut Muts<'n>) -> Option<&'static Shape> {
+        self.fields.shape_mut(values)
     }
 }
 

@@ -15,10 +15,10 @@ use crate::view::ItemView;
 /// let component = b"\0asm\x0d\0\x01\0\x07\x05\x01\x40\0\x01\0\x0a\x06\x01\0\x01f\x01\0";
 /// let mut counts = IndexCounts::default();
 /// for item in Sections::new(component)?.items() {
-///     counts.add(&item?.1);
+///     counts.add(&item?.view);
 /// }
 /// assert_eq!((counts.of(Space::Types), counts.of(Space::Funcs)), (1, 1));
-/// # Ok::<(), wenc::ListFault>(())
+/// # Ok::<(), wenc::ReadError>(())
 /// ```
 #[derive(Clone, Copy, Debug, PartialEq, Eq, Hash)]
 pub struct IndexCounts([u64; Space::ALL.len()]);
@@ -26,11 +26,14 @@ pub struct IndexCounts([u64; Space::ALL.len()]);
 impl Default for IndexCounts {
     #[inline]
     fn default() -> Self {
-        Self([0; Space::ALL.len()])
+        Self::NONE
     }
 }
 
 impl IndexCounts {
+    /// No indices.
+    pub(crate) const NONE: Self = Self([0; Space::ALL.len()]);
+
     /// Returns the number of indices in a space: [`u64::MAX`] after an item that can't be read and
     /// may define some in it.
     pub fn of(&self, space: Space) -> u64 {

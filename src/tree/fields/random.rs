@@ -1,7 +1,9 @@
 //! Random items, by the table of fields, and their reading.
 
-use super::NameOptions;
-use crate::tree::{Box, CoreArrayType, CoreFuncType, CoreValType, Global, ItemTree};
+use crate::tree::{
+    Box, CoreArrayType, CoreFuncType, CoreStructType, CoreValType, Global, ItemTree, NameOptions,
+    NameTree,
+};
 use crate::{Component, ItemSection, Sections};
 use std::fmt::Debug;
 use std::format;
@@ -37,13 +39,13 @@ macro_rules! random_enum {
         $($name:ident $(($one:ident $(: $of:tt)?))? $({ $($field:ident $(: $role:tt)?),+ })?
             $(in $outer:tt)? $(=> $defined:expr)?),+ $(,)?
     }) => {
-        impl random::Random for $ty {
-            fn random(choices: &mut random::Choices) -> Self {
+        impl crate::tree::fields::random::Random for $ty {
+            fn random(choices: &mut crate::tree::fields::random::Choices) -> Self {
                 #[allow(unused_variables, reason = "not all variants have fields")]
-                let variants: &[fn(&mut random::Choices) -> Self] = &[$(
+                let variants: &[fn(&mut crate::tree::fields::random::Choices) -> Self] = &[$(
                     |choices| Self::$name
-                        $(({ let $one = random::Random::random(choices); $one }))?
-                        $({ $($field: random::Random::random(choices)),+ })?
+                        $(({ let $one = crate::tree::fields::random::Random::random(choices); $one }))?
+                        $({ $($field: crate::tree::fields::random::Random::random(choices)),+ })?
                 ),+];
                 variants[choices.below(variants.len())](choices)
             }
@@ -54,15 +56,19 @@ macro_rules! random_enum {
 /// Implements `Random` for a struct, by its fields.
 macro_rules! random_struct {
     ($name:ident, { $($field:ident $(: $role:tt)?),+ }) => {
-        impl random::Random for $name {
-            fn random(choices: &mut random::Choices) -> Self {
-                Self { $($field: random::Random::random(choices)),+ }
+        impl crate::tree::fields::random::Random for $name {
+            fn random(choices: &mut crate::tree::fields::random::Choices) -> Self {
+                Self { $($field: crate::tree::fields::random::Random::random(choices)),+ }
             }
         }
     };
 }
 
 pub(super) use {random_enum, random_struct};
+
+random_struct! { CoreStructType, { fields } }
+random_struct! { NameOptions, { implements, version_suffix, external_id } }
+random_struct! { NameTree, { name, options } }
 
 impl Random for bool {
     fn random(choices: &mut Choices) -> Self {
@@ -178,10 +184,9 @@ fn random_items_are_read_as_they_were_written() {
         let bytes = component(&item);
         kinds[usize::from(bytes[8])] += 1;
         let mut read = Sections::new(&bytes).expect("a component").items();
-        let (_, view) = read.next().expect("an item").expect("it is read");
+        let view = read.next().expect("an item").expect("it is read").view;
         assert!(read.next().is_none());
         assert_eq!(view.to_tree(), item);
-        assert_eq!(format!("{:?}", view.node()), format!("{:?}", item.node()));
 
         let (mut owned, mut borrowed) = (Vec::new(), Vec::new());
         item.indices_mut(|used| owned.push((used.space, used.scope, *used.index)));

@@ -7,15 +7,6 @@ use crate::tree::node::{Child, Fields, Node};
 /// The names and the values of some fields: nodes would be large with them.
 pub(in crate::tree) type Named<'a> = [Option<(&'static str, Child<'a>)>; 4];
 
-/// Returns the names and the values of fields.
-pub(super) fn named<'a>(all: &[(&'static str, Child<'a>)]) -> Named<'a> {
-    let mut named = [None; 4];
-    for (field, of) in named.iter_mut().zip(all) {
-        *field = Some(*of);
-    }
-    named
-}
-
 /// The role of a field.
 #[derive(Clone, Copy)]
 pub(super) enum Role {

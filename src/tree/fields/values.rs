@@ -1,11 +1,11 @@
-//! The fields of containers, and of borrowed types whose fields aren't those of the owned ones.
+//! The fields of containers.
 
 use super::shape::{Kind, Role, Shape};
-use super::{Elements, Named, Node, Part, Place, Refs, Tree, Visit, Whole, named, node_of};
+use super::{Elements, Node, Place, Refs, Tree, Visit};
 use crate::proved::wenc_view::View;
-use crate::tree::node::{Child, Fields, List};
+use crate::tree::node::List;
 use crate::tree::{CoreArrayType, Space};
-use crate::view::{ComponentDecls, CoreCompositeView, InstanceDecls, ListOf, NameView};
+use crate::view::{ComponentDecls, InstanceDecls, ListOf};
 use core::ops::ControlFlow;
 
 /// Implements `Tree` for types without a shape.
@@ -28,10 +28,6 @@ leaves! {
     u32, number, place => place.number(*number);
     &str, text, _ => Node::Text(text);
     &[u8], bytes, _ => Node::Bytes(bytes);
-    // Its node is that of the owned name, whose options are a struct.
-    NameView<'_>, name, place => Node::Record("NameTree", Fields::whole(name, place));
-    // Its node is that of the owned type, whose variants have a struct.
-    CoreCompositeView<'_>, ty, place => Node::Variant(ty.word(), Child::part(ty, place));
 }
 
 /// Implements `Tree` for borrowed lists, whose elements are read one by one.
@@ -99,64 +95,6 @@ impl<N: Tree, K: Tree + Copy + Into<Space>> Tree for (N, K, u32) {
         let (name, kind, index) = self;
         values.outer = (0, (*kind).into());
         Some(values.three(&ITEM, name, kind, index))
-    }
-}
-
-impl Whole for NameView<'_> {
-    fn fields<'n>(&'n self, place: Place<'n>) -> Named<'n> {
-        let Self { name, implements, version_suffix, external_id } = self;
-        let options = match (implements, version_suffix, external_id) {
-            (None, None, None) => Child::new(&None::<&str>, place),
-            _ => Child::present(self, place),
-        };
-        named(&[("name", Child::new(name, place)), ("options", options)])
-    }
-}
-
-impl Part for NameView<'_> {
-    fn part<'n>(&'n self, place: Place<'n>) -> Node<'n> {
-        Node::Record("NameOptions", Fields::part(self, place))
-    }
-
-    fn part_fields<'n>(&'n self, place: Place<'n>) -> Named<'n> {
-        let Self { name: _, implements, version_suffix, external_id } = self;
-        named(&[
-            ("implements", Child::new(implements, place)),
-            ("version_suffix", Child::new(version_suffix, place)),
-            ("external_id", Child::new(external_id, place)),
-        ])
-    }
-}
-
-impl CoreCompositeView<'_> {
-    /// Returns the name of the variant.
-    fn word(&self) -> &'static str {
-        match self {
-            Self::Func { .. } => "Func",
-            Self::Array(_) => "Array",
-            Self::Struct(_) => "Struct",
-        }
-    }
-}
-
-impl Part for CoreCompositeView<'_> {
-    fn part<'n>(&'n self, place: Place<'n>) -> Node<'n> {
-        match self {
-            Self::Func { .. } => Node::Record("CoreFuncType", Fields::part(self, place)),
-            Self::Array(ty) => node_of(ty, place),
-            Self::Struct(_) => Node::Record("CoreStructType", Fields::part(self, place)),
-        }
-    }
-
-    fn part_fields<'n>(&'n self, place: Place<'n>) -> Named<'n> {
-        match self {
-            Self::Func { params, results } => named(&[
-                ("params", Child::new(params, place)),
-                ("results", Child::new(results, place)),
-            ]),
-            Self::Array(_) => [None; 4],
-            Self::Struct(fields) => named(&[("fields", Child::new(fields, place))]),
-        }
     }
 }
 

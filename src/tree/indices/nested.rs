@@ -3,9 +3,10 @@
 use super::{IndexUse, Scope};
 use crate::shim::vec::VecUsing;
 use crate::tree::ItemTree;
-use crate::{ComponentBuilder, ComponentSectionId, Error, ListFault, SectionReader, Sections};
+use crate::view::ItemView;
+use crate::{ComponentBuilder, Error, ReadError, Step, Walk};
 use alloc::vec::Vec;
-use core::{fmt, mem};
+use core::mem;
 
 /// The maximum depth of nested components: each is copied into the one around it.
 const DEPTH: usize = 100;
@@ -23,8 +24,8 @@ impl ItemTree {
     ///
     /// # Errors
     ///
-    /// [`OuterFault::Read`] if a component can't be read, and [`OuterFault::Write`] if it can't be
-    /// encoded again. The item is then unchanged, but `visit` may have been called.
+    /// The first part of a component that can't be read, or
+    /// [`Cause::Unwritten`](crate::Cause::Unwritten) if it can't be encoded again. The item is then unchanged, but `visit` may have been called.
     ///
     /// ```
     /// use wenc::list;
@@ -35,7 +36,7 @@ impl ItemTree {
     ///     \x04\x17\0asm\x0d\0\x01\0\x06\x05\x01\x03\x02\x01\0\x0a\x06\x01\0\x01f\x01\0";
     ///
     /// // the same with an outer alias of the second
-    /// let mut items: Vec<_> = list(component)?.into_items().collect();
+    /// let mut items: Vec<_> = list(component)?.sections.into_iter().flat_map(|of| of.items).collect();
     /// items[2].outer_indices_mut(0, |used| {
     ///     assert_eq!((used.space, used.scope), (Space::Types, Scope::Component(0)));
     ///     *used.index += 1;
@@ -52,7 +53,7 @@ impl ItemTree {
         &mut self,
         limit: usize,
         mut visit: impl FnMut(IndexUse<'_>),
-    ) -> Result<(), OuterFault> {
+    ) -> Result<(), ReadError> {
         if let Self::Component(bytes) = self {
             if let Some(changed) = visit_outer(bytes, limit.min(DEPTH), &mut visit)? {
                 *bytes = changed;
@@ -68,41 +69,38 @@ fn visit_outer(
     bytes: &[u8],
     limit: usize,
     visit: &mut dyn FnMut(IndexUse<'_>),
-) -> Result<Option<Vec<u8>>, OuterFault> {
-    let mut innermost = Visited::new(bytes, 1)?;
+) -> Result<Option<Vec<u8>>, ReadError> {
+    let mut walk = Walk::new(bytes, limit)?;
+    let mut innermost = Visited::new(bytes, 1);
     // the components around it
     let mut around = Vec::new();
-    loop {
-        if let Some(section) = innermost.sections.next() {
-            let section = section?;
-            if section.id() != ComponentSectionId::Component.into() {
-                innermost.visit(section, visit)?;
-                continue;
+    while let Some(step) = walk.next() {
+        match step {
+            Step::Item(item) => innermost.visit(&item.view, visit)?,
+            Step::Enter(item) => {
+                let nested = Visited::new(&bytes[item.range], innermost.depth + 1);
+                let outer = mem::replace(&mut innermost, nested);
+                around.push_using(outer).map_err(|_| ReadError::memory())?;
             }
-            if around.len() >= limit {
-                let place = section.range().start;
-                return Err(ListFault::TooDeep { place, unread: None, cause: None }.into());
+            Step::Leave => {
+                let Some(outer) = around.pop() else { continue };
+                let Visited { bytes, .. } = innermost;
+                let changed = mem::replace(&mut innermost, outer).finish()?;
+                innermost.is_changed |= changed.is_some();
+                innermost.add(|builder| {
+                    builder.try_component_raw(None, changed.as_deref().unwrap_or(bytes)).map(drop)
+                });
             }
-            let nested = Visited::new(section.raw().data, innermost.depth + 1)?;
-            let outer = mem::replace(&mut innermost, nested);
-            around.push_using(outer).map_err(|_| ListFault::NoMemory)?;
-        } else {
-            let bytes = innermost.bytes;
-            let changed = innermost.finish()?;
-            let Some(outer) = around.pop() else { return Ok(changed) };
-            innermost = outer;
-            innermost.is_changed |= changed.is_some();
-            innermost.add(|builder| {
-                builder.try_component_raw(None, changed.as_deref().unwrap_or(bytes)).map(drop)
-            });
+            Step::Unread(unread) => return Err(unread.error),
+            Step::Section(_) => {}
         }
     }
+    Ok(innermost.finish()?)
 }
 
 /// A component whose indices are being visited.
 struct Visited<'a> {
     bytes: &'a [u8],
-    sections: Sections<'a>,
     /// The distance to the component that has the item: 1, or more for a nested one.
     depth: u32,
     /// The component with the items visited so far, or why it can't be encoded.
@@ -111,29 +109,26 @@ struct Visited<'a> {
 }
 
 impl<'a> Visited<'a> {
-    fn new(bytes: &'a [u8], depth: u32) -> Result<Self, ListFault> {
-        let (sections, again) = (Sections::new(bytes)?, ComponentBuilder::try_new());
-        Ok(Self { bytes, sections, depth, again, is_changed: false })
+    fn new(bytes: &'a [u8], depth: u32) -> Self {
+        Self { bytes, depth, again: ComponentBuilder::try_new(), is_changed: false }
     }
 
-    /// Visits the indices in a section that refer to the components around the item.
+    /// Visits the indices of an item that refer to what is around the item with the component, and
+    /// adds it.
     fn visit(
         &mut self,
-        section: SectionReader<'a>,
+        item: &ItemView<'_>,
         visit: &mut dyn FnMut(IndexUse<'_>),
-    ) -> Result<(), OuterFault> {
-        let mut items = section.trees();
-        while let Some(item) = items.next_apart() {
-            let (_, mut item) = item?;
-            item.try_indices_mut(|IndexUse { space, scope, index }| {
-                let Scope::Component(out) = scope else { return };
-                let Some(out) = out.checked_sub(self.depth) else { return };
-                let before = *index;
-                visit(IndexUse { space, scope: Scope::Component(out), index });
-                self.is_changed |= *index != before;
-            })?;
-            self.add(|builder| builder.try_item(None, &item).map(drop));
-        }
+    ) -> Result<(), Error> {
+        let mut item = item.try_to_tree()?;
+        item.try_indices_mut(|IndexUse { space, scope, index }| {
+            let Scope::Component(out) = scope else { return };
+            let Some(out) = out.checked_sub(self.depth) else { return };
+            let before = *index;
+            visit(IndexUse { space, scope: Scope::Component(out), index });
+            self.is_changed |= *index != before;
+        })?;
+        self.add(|builder| builder.try_item(None, &item).map(drop));
         Ok(())
     }
 
@@ -151,39 +146,3 @@ impl<'a> Visited<'a> {
         if self.is_changed { self.again?.try_finish().map(Some) } else { Ok(None) }
     }
 }
-
-/// Why the indices of a nested component can't be visited or changed.
-///
-/// It doesn't convert into [`Error`](crate::Error), which says what can't be written.
-#[derive(Clone, Copy, Debug, PartialEq, Eq)]
-pub enum OuterFault {
-    /// The component, or one nested in it, can't be read or is nested deeper than the limit. Byte
-    /// offsets are counted from the start of the component that has the section.
-    Read(ListFault),
-    /// The component can't be encoded again.
-    Write(Error),
-}
-
-impl From<ListFault> for OuterFault {
-    fn from(fault: ListFault) -> Self {
-        Self::Read(fault)
-    }
-}
-
-impl From<Error> for OuterFault {
-    fn from(error: Error) -> Self {
-        Self::Write(error)
-    }
-}
-
-impl fmt::Display for OuterFault {
-    #[inline]
-    fn fmt(&self, f: &mut fmt::Formatter<'_>) -> fmt::Result {
-        match self {
-            Self::Read(fault) => write!(f, "a nested component isn't read: {fault}"),
-            Self::Write(error) => write!(f, "a nested component isn't encoded: {error}"),
-        }
-    }
-}
-
-impl core::error::Error for OuterFault {}

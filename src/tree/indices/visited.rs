@@ -40,7 +40,7 @@ impl ItemTree {
     /// // the same after another type
     /// let ty = TypeTree::Func { is_async: true, params: vec![], result: None };
     /// let mut commands = vec![Command::Type { debug_name: None, ty }];
-    /// for mut item in list(component)?.into_items() {
+    /// for mut item in list(component)?.sections.into_iter().flat_map(|of| of.items) {
     ///     item.indices_mut(|used| {
     ///         if (used.scope, used.space) == (Scope::Component(0), Space::Types) {
     ///             *used.index += 1;

@@ -40,12 +40,11 @@ fn is_read(call: &Call, size: &Size) {
     let mut sections = Sections::new(&bytes).expect("a component");
     let reader = sections.next().expect("a section").expect("it is read");
     assert!(sections.next().is_none());
-    let (place, view) = reader.items().next().expect("an item").expect("it is read");
-    let (_, read) = reader.trees().next().expect("an item").expect("it is read");
-    assert!(is_same(view, tree) && view.to_tree() == *tree && read == *tree, "{}", call.name);
+    let Item { range, view, .. } = reader.items().next().expect("an item").expect("it is read");
+    assert!(is_same(view, tree), "{}", call.name);
     assert_eq!(view.defined_indices(), defined, "{}", call.name);
     assert!(visited(view.node()) == (call.indices)(size), "{}: in place", call.name);
-    assert!(bytes[place] == item, "{}", call.name);
+    assert!(bytes[range] == item, "{}", call.name);
     let (mut anew, mut kept) = (ItemSection::new(call.id), ItemSection::new(call.id));
     anew.item(tree).expect("it is added");
     kept.raw(&item).expect("it is added");

@@ -43,15 +43,23 @@ fn nested(count: usize) -> Vec<u8> {
     [&Component::HEADER[..], &section.unwrap_or_default()].concat()
 }
 
+/// A walk asks for more memory at each fifth component around the next step.
 #[test]
 fn nested_components() {
-    for (count, requests) in [(3, 0), (9, 0), (10, 1), (11, 1)] {
+    for (count, requests) in [(1, 0), (4, 0), (5, 2), (8, 2), (9, 4)] {
         let component = nested(count);
-        let sections = || Sections::new(&component).expect("a component").nested(count);
-        assert_eq!(sections().count(), count - 1);
-        assert_eq!(sections().map(|section| section.expect("a section").0).max(), Some(count - 2));
-        each_is_refused(sections, ListFault::NoMemory, requests);
+        let steps = || {
+            Walk::new(&component, count).expect("a component").map(|step| match step {
+                Step::Unread(unread) => Err(unread.error),
+                _ => Ok(()),
+            })
+        };
+        assert_eq!(steps().count(), 3 * (count - 1));
+        each_is_refused(steps, Error::NoMemory.into(), requests);
     }
+    let component = nested(1);
+    let (begun, is_refused) = refusing(0, || Walk::new(&component, 0).map(|_| ()));
+    assert_eq!((begun, is_refused), (Err(Error::NoMemory.into()), true));
 }
 
 /// What components and their indices are kept for the next ones.
@@ -60,13 +68,13 @@ fn indices_out_of_range() {
     // a component, and one in which a list is of a type that isn't there
     for (component, found, requests) in [
         (&nested(1)[..], 0, 0),
-        (&nested(3), 0, 1),
+        (&nested(3), 0, 0),
         (&nested(6), 0, 2),
-        (b"\0asm\x0d\0\x01\0\x07\x05\x02\x70\x09\x70\x09", 2, 2),
+        (b"\0asm\x0d\0\x01\0\x07\x05\x02\x70\x09\x70\x09", 2, 1),
     ] {
-        let all = || Sections::new(component).expect("a component").out_of_range(8);
+        let all = || Walk::new(component, 8).expect("a component").out_of_range();
         assert_eq!(all().filter(|one| one.is_ok()).count(), found);
-        each_is_refused(all, ListFault::NoMemory, requests);
+        each_is_refused(all, Error::NoMemory.into(), requests);
     }
 }
 
@@ -86,10 +94,10 @@ fn definitions() {
         (faults.last().copied(), is_refused)
     };
     let (read, is_refused) = refusing(u32::MAX, || Definitions::new(&component, 8).err());
-    assert!(matches!((read, is_refused), (Some(ListFault::BadItem { place: 38, .. }), false)));
+    assert!(matches!((read, is_refused), (Some(error), false) if error.section == 38));
     let mut requests = 0;
     while let (last, true) = all(requests) {
-        assert_eq!(last, Some(ListFault::NoMemory), "request {requests}");
+        assert_eq!(last, Some(Error::NoMemory.into()), "request {requests}");
         requests += 1;
     }
     assert_eq!(all(requests).0, read);

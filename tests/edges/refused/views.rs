@@ -3,11 +3,10 @@
 use super::GRANTED;
 use crate::corpus;
 use crate::hex::bytes;
-use crate::seen::is_same;
 use crate::spellings::ROWS;
 use std::hash::{DefaultHasher, Hash, Hasher};
 use std::hint::black_box;
-use wenc::tree::{ItemTree, Space, UsedIndex};
+use wenc::tree::{ItemTree, UsedIndex};
 use wenc::view::ItemView;
 use wenc::*;
 
@@ -17,54 +16,33 @@ fn components() -> Vec<Vec<u8>> {
     corpus::components().into_iter().map(|(_, bytes)| bytes).chain(rows).collect()
 }
 
-/// What a component has: its items and those of the components in it, each with the id of its
-/// section, up to the first fault, and that.
-type Found<'a> = (Vec<(u8, ItemView<'a>)>, Option<ListFault>);
-
-/// Reads them, with each member of each list.
-fn walk<'a>(bytes: &'a [u8], (items, fault): &mut Found<'a>) -> Result<(), ListFault> {
-    let sections = Sections::new(bytes)?;
+/// Reads the items of a component up to the first error, with each member of each list. Returns
+/// whether all are read.
+fn walk<'a>(bytes: &'a [u8], found: &mut Vec<(u8, ItemView<'a>)>) -> Result<(), ReadError> {
     let mut members = DefaultHasher::new();
-    for section in sections.nested(8) {
-        let (_, section) = section?;
+    for section in Sections::new(bytes)? {
+        let section = section?;
         for item in section.items() {
-            match item {
-                Ok((_, item)) => {
-                    item.hash(&mut members);
-                    items.push((section.id(), item));
-                }
-                Err(found) => *fault = fault.or(Some(found)),
-            }
+            let item = item?;
+            item.hash(&mut members);
+            found.push((section.id(), item.view));
         }
     }
-    assert_ne!(members.finish(), 0);
-    black_box((sections.imports().count(), sections.exports().count()));
-    Space::ALL.into_iter().try_for_each(|space| sections.index_count(space).map(drop))
+    black_box(members.finish());
+    Ok(())
 }
 
-/// A walk doesn't allocate, and finds what a walk over owned items does.
+/// Sections and items are read without memory.
 #[test]
 fn nothing_is_asked_for() {
     let (mut walked, mut ids) = (0, [0; 12]);
     for bytes in components() {
-        let mut found: Found<'_> = (Vec::with_capacity(2000), None);
+        let mut found = Vec::with_capacity(2000);
         GRANTED.set(Some(0));
         let result = walk(&bytes, &mut found);
         let asked = GRANTED.take() != Some(0);
-        let (views, fault) = found;
-        assert!(!asked, "{fault:?} {result:?}");
-
-        let sections = Sections::new(&bytes).expect("a component").nested(8);
-        let sections = sections.map_while(Result::ok).map(|(_, section)| section);
-        let trees = sections.flat_map(|section| {
-            section.trees().map_while(Result::ok).map(move |(_, item)| (section.id(), item))
-        });
-        let trees: Vec<_> = trees.collect();
-        assert_eq!(views.len(), trees.len());
-        for ((id, view), (of, tree)) in views.into_iter().zip(&trees) {
-            assert!(id == *of && is_same(view, tree), "{view:?} is not {tree:?}");
-            ids[usize::from(id)] += 1;
-        }
+        assert!(!asked, "{result:?}");
+        found.iter().for_each(|(id, _)| ids[usize::from(*id)] += 1);
         walked += u32::from(result.is_ok());
     }
     assert!(walked > 60 && ids.iter().all(|count| *count > 0), "{walked} {ids:?}");
@@ -83,21 +61,18 @@ fn indices_of(tree: &mut ItemTree) -> Vec<UsedIndex> {
 /// Expects that the indices and nodes of borrowed items don't allocate and equal those of owned
 /// items. Returns the number of items and of indices.
 fn expect_indices(bytes: &[u8]) -> (usize, usize) {
-    let sections = Sections::new(bytes).expect("a component").nested(8);
-    let sections = sections.map_while(Result::ok).map(|(_, section)| section);
     let mut found = (0, 0);
-    for section in sections {
-        let trees = section.trees().map_while(Result::ok);
-        for ((_, view), (_, mut tree)) in section.items().map_while(Result::ok).zip(trees) {
-            let wanted = indices_of(&mut tree);
-            let mut indices = Vec::with_capacity(wanted.len() + 1);
-            GRANTED.set(Some(0));
-            view.node().each_index(|used| indices.push(used));
-            let asked = GRANTED.take() != Some(0);
-            assert!(!asked && indices == wanted, "{view:?}");
-            assert_eq!(format!("{:?}", view.node()), format!("{:?}", tree.node()));
-            found = (found.0 + 1, found.1 + indices.len());
-        }
+    for step in Walk::new(bytes, 8).expect("a component") {
+        let Step::Item(Item { view, .. }) = step else { continue };
+        let mut tree = view.to_tree();
+        let wanted = indices_of(&mut tree);
+        let mut indices = Vec::with_capacity(wanted.len() + 1);
+        GRANTED.set(Some(0));
+        view.node().each_index(|used| indices.push(used));
+        let asked = GRANTED.take() != Some(0);
+        assert!(!asked && indices == wanted, "{view:?}");
+        assert_eq!(view.to_tree(), tree);
+        found = (found.0 + 1, found.1 + indices.len());
     }
     found
 }

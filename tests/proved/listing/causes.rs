@@ -2,7 +2,7 @@
 
 use super::refusals::refusal;
 use crate::proved::wenc_read::Expected;
-use crate::{Cause, ComponentSectionId, ListFault, Unread};
+use crate::{Cause, Format, Part, ReadError};
 use std::string::ToString;
 use std::vec::Vec;
 
@@ -45,9 +45,9 @@ fn causes_are_moved() {
         ]
     };
     assert_eq!(of(0).map(|cause| cause.moved(10)), of(10));
-    assert_eq!(of(0).map(|cause| cause.place()), [3, 3, 3, 5, 3]);
+    assert_eq!(of(0).map(|cause| cause.place()), [3, 3, 3, 5, 3].map(Some));
     let last = usize::MAX;
-    assert_eq!(of(0).map(|cause| cause.moved(last).place()), [last; 5]);
+    assert_eq!(of(0).map(|cause| cause.moved(last).place()), [Some(last); 5]);
 }
 
 #[test]
@@ -89,9 +89,8 @@ fn first_bytes_of_items() {
         (few(11, 3, 2), "needs 3 bytes or more from 0xb on, where 2 are left"),
     ];
     for (cause, wanted) in rows {
-        let (unread, cause) = (Some(Unread::Item { number: 0, place: 11 }), Some(cause));
-        let section = ComponentSectionId::Type;
-        let fault = ListFault::BadItem { place: 8, section, unread, cause };
+        let (format, part) = (Format::Component, Part::Item(0));
+        let fault = ReadError { format, section: 8, id: Some(7), offset: 11, part, cause };
         let item = "bad item 0 at 0xb in the section at 0x8: ";
         assert_eq!(fault.to_string().strip_prefix(item), Some(wanted));
     }

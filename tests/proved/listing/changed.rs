@@ -4,7 +4,7 @@
 use super::sections::{EACH_KIND, ROWS, Row};
 use super::{component, read};
 use crate::proved::tests::hex::bytes;
-use crate::{ListFault, Listing};
+use crate::{Listing, Part};
 use std::collections::HashMap;
 use std::format;
 
@@ -16,28 +16,16 @@ type Answers = [u32; 3];
 fn is_cut(front: &[u8], begin: usize) {
     let place = match read(front) {
         Ok(_) => front.len(),
-        Err(ListFault::BadSection { place, .. }) => {
-            assert!(place < front.len());
-            place
-        }
-        Err(ListFault::NotAComponent { place, .. }) => {
-            assert!(place == 0 && front.len() < 8);
+        Err(error) if error.part == Part::Header => {
+            assert!(error.offset == 0 && front.len() < 8);
             return;
         }
-        Err(fault) => panic!("{fault:?}"),
+        Err(error) => {
+            assert!(error.part == Part::Section && error.offset < front.len());
+            error.offset
+        }
     };
     assert_eq!(place, begin);
-}
-
-/// The place where the fault is.
-fn place_of(fault: ListFault) -> usize {
-    match fault {
-        ListFault::NotAComponent { place, .. }
-        | ListFault::BadSection { place, .. }
-        | ListFault::BadItem { place, .. }
-        | ListFault::TooDeep { place, .. } => place,
-        fault => panic!("{fault:?}"),
-    }
 }
 
 /// The byte at this place of a section that begins there is made others: each where `all` says so,
@@ -60,7 +48,7 @@ fn change(bytes: &[u8], at: usize, begin: usize, all: bool, answers: &mut Answer
                 answers[1] += 1;
             }
             Err(fault) => {
-                assert!(place_of(fault) >= begin, "{changed:x?}");
+                assert!(fault.section >= begin, "{changed:x?}");
                 answers[2] += 1;
             }
         }

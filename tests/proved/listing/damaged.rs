@@ -6,8 +6,7 @@ use super::{component, read};
 use crate::proved::tests::hex::bytes;
 use crate::proved::tests::refusing::Refusing;
 use crate::proved::wenc_list::{self, list};
-use crate::tree::Space;
-use crate::{Cause, ComponentSectionId, Encode, ListFault, Sections, Unread};
+use crate::{Cause, Encode, Part, ReadError, Walk};
 use std::ops::Range;
 use std::vec::Vec;
 
@@ -86,21 +85,24 @@ const UNFILLED: &[(u8, &str)] = &[
     (7, "6d01ffffffff0f"),
 ];
 
-const fn item(number: u32, place: usize) -> Option<Unread> {
-    Some(Unread::Item { number, place })
+/// A part of a section, with its byte offset.
+type Unread = Option<(Part, usize)>;
+
+const fn item(number: u32, place: usize) -> Unread {
+    Some((Part::Item(number), place))
 }
 
-const fn count(place: usize) -> Option<Unread> {
-    Some(Unread::Count { place })
+const fn count(place: usize) -> Unread {
+    Some((Part::Count, place))
 }
 
-const fn behind(place: usize) -> Option<Unread> {
-    Some(Unread::Behind { place })
+const fn behind(place: usize) -> Unread {
+    Some((Part::Rest, place))
 }
 
 /// Sections, several in each word, with the byte offset of the first that can't be read and its
 /// unread part; `None` if its id, its size or the name of a custom section is bad.
-const SECTIONS: &[(usize, Option<Unread>, &str)] = &[
+const SECTIONS: &[(usize, Unread, &str)] = &[
     // An unknown id, a size that isn't a number or extends past the end.
     (8, None, "0c00 0c ff0100 06 0680 0681808080800000 068080808010 06ffffffff1f 060501"),
     (8, None, "01ffffffff0f 060200 06808080808000"),
@@ -147,36 +149,22 @@ fn number(bytes: &[u8]) -> (usize, usize) {
 
 /// The fault is that this part of the section at this byte offset can't be read, and its cause is
 /// in that part.
-fn is_fault(fault: ListFault, bytes: &[u8], place: usize, unread: Option<Unread>) {
-    let (begin, end) = match unread {
-        None => (place, bytes.len()),
-        Some(Unread::Count { place: at } | Unread::Item { place: at, .. }) => {
-            let (size, len) = number(&bytes[place + 1..]);
-            (at, place + 1 + len + size)
-        }
-        Some(Unread::Behind { .. }) => (0, 0),
+fn is_fault(error: ReadError, bytes: &[u8], place: usize, unread: Unread) {
+    let (part, offset) = unread.unwrap_or((Part::Section, place));
+    assert_eq!((error.section, error.part, error.offset), (place, part, offset), "{bytes:x?}");
+    let end = if part == Part::Section {
+        bytes.len()
+    } else {
+        assert_eq!(error.id, Some(bytes[place]));
+        let (size, len) = number(&bytes[place + 1..]);
+        place + 1 + len + size
     };
-    let cause = match fault {
-        ListFault::BadSection { cause, .. } | ListFault::BadItem { cause, .. } => cause,
-        fault => panic!("{fault:?}"),
-    };
-    let wanted = match unread {
-        None => ListFault::BadSection { place, cause },
-        Some(_) => {
-            let section = ComponentSectionId::try_from(bytes[place]).expect("an id");
-            ListFault::BadItem { place, section, unread, cause }
-        }
-    };
-    assert_eq!(fault, wanted, "{bytes:x?}");
-    match cause {
-        None => assert_eq!(end, 0),
-        Some(cause) => is_so(cause, bytes, begin..end),
-    }
+    is_so(error.cause, bytes, offset..end);
 }
 
 /// The cause is true of these bytes.
 fn is_so(cause: Cause, bytes: &[u8], part: Range<usize>) {
-    let (from, len) = (cause.place(), part.len());
+    let (from, len) = (cause.place().expect("a place"), part.len());
     match cause {
         Cause::Byte { place, byte, expected } => {
             assert!(part.contains(&place) && bytes[place] == byte, "{cause} {bytes:x?}");
@@ -190,37 +178,25 @@ fn is_so(cause: Cause, bytes: &[u8], part: Range<usize>) {
             assert!(part.start <= place && left < needed as usize && left <= len, "{cause}");
             assert!(from <= part.end && (from == part.end || bytes[part.start] == 0), "{cause}");
         }
-        Cause::Deep { .. } => panic!("{cause}"),
-    }
-}
-
-/// The same part, this many bytes further on.
-fn moved(unread: Unread, by: usize) -> Unread {
-    match unread {
-        Unread::Count { place } => Unread::Count { place: place + by },
-        Unread::Item { number, place } => Unread::Item { number, place: place + by },
-        Unread::Behind { place } => Unread::Behind { place: place + by },
+        _ => panic!("{cause}"),
     }
 }
 
 /// Each reader returns that this part of the section at this byte offset can't be read, also inside
 /// a component around it.
-fn is_told(sections: &[u8], place: usize, unread: Option<Unread>) {
+fn is_told(sections: &[u8], place: usize, unread: Unread) {
     let bytes = component(sections);
-    let fault = read(&bytes).expect_err("it can't be read");
-    is_fault(fault, &bytes, place, unread);
+    let error = read(&bytes).expect_err("it can't be read");
+    is_fault(error, &bytes, place, unread);
     requests(&bytes);
-    let all = Sections::new(&bytes).expect("a component");
-    assert_eq!(all.index_count(Space::Types), Err(fault));
-    assert_eq!(all.out_of_range(0).last(), Some(Err(fault)));
+    let walk = || Walk::new(&bytes, 0).expect("a component");
+    assert_eq!(walk().items().last(), Some(Err(error)));
+    assert_eq!(walk().out_of_range().last(), Some(Err(error)));
     let outer = component(&[&[0x04, bytes.len() as u8], &bytes[..]].concat());
-    let mut inner = Sections::new(&outer).expect("a component").nested(1).skip(1);
-    let found = inner.find_map(|section| match section {
-        Ok((_, section)) => section.items().find_map(Result::err),
-        Err(fault) => Some(fault),
-    });
-    let unread = unread.map(|unread| moved(unread, 10));
-    is_fault(found.expect("a fault"), &outer, place + 10, unread);
+    let inner = Walk::new(&outer, 1).expect("a component").items().find_map(Result::err);
+    assert_eq!(inner.map(|inner| inner.part), Some(error.part));
+    let unread = unread.map(|(part, offset)| (part, offset + 10));
+    is_fault(inner.expect("an error"), &outer, place + 10, unread);
 }
 
 /// Each allocation of the listing fails in turn. Returns how many there are.
@@ -306,9 +282,9 @@ fn deep_types() {
             let unread = item(number, bytes.len() - data.len() + before.len());
             // three bytes of each type around it
             let place = bytes.len() - data.len() + before.len() + 300;
-            let cause = Some(Cause::Deep { place });
-            let fault = ListFault::TooDeep { place: 8, unread, cause };
-            assert_eq!(read(&bytes).err(), (!is_read).then_some(fault));
+            let told = read(&bytes).err().map(|error| (error.part, error.offset, error.cause));
+            let deep = unread.map(|(part, offset)| (part, offset, Cause::Deep { place }));
+            assert_eq!(told, deep.filter(|_| !is_read));
         }
     }
 }

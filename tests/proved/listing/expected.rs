@@ -2,7 +2,7 @@
 
 use super::component;
 use crate::proved::tests::hex::bytes;
-use crate::{Bytes, Cause, ListFault, NamesFault, NamesReader, Sections};
+use crate::{Bytes, Cause, NamesReader, Part, ReadError, Sections};
 use std::collections::HashSet;
 use std::string::{String, ToString};
 use std::vec::Vec;
@@ -33,18 +33,14 @@ const FRONTS: [(u8, &str); 16] = [
 /// Returns the place of the first byte that can't be read, and the bytes that are expected there.
 fn stop(sections: &[u8]) -> Option<(usize, Option<Bytes>)> {
     let bytes = component(sections);
-    let fault = Sections::new(&bytes).expect("a component").items().find_map(Result::err)?;
-    match fault {
-        ListFault::BadSection { cause: Some(cause), .. }
-        | ListFault::BadItem { cause: Some(cause), .. } => Some(place_in(cause)),
-        _ => None,
-    }
+    let error = Sections::new(&bytes).expect("a component").items().find_map(Result::err)?;
+    (error.part != Part::Rest).then(|| place_in(error))
 }
 
-fn place_in(cause: Cause) -> (usize, Option<Bytes>) {
-    match cause {
-        Cause::Byte { expected, .. } => (cause.place(), Some(expected)),
-        _ => (cause.place(), None),
+fn place_in(error: ReadError) -> (usize, Option<Bytes>) {
+    match error.cause {
+        Cause::Byte { expected, .. } => (error.place(), Some(expected)),
+        _ => (error.place(), None),
     }
 }
 
@@ -89,9 +85,7 @@ fn items() {
         move |byte| {
             let content = [front, &[byte], &BEHIND].concat();
             let data = [&[1, content.len() as u8], &content[..]].concat();
-            let fault = NamesReader::new(&data).find_map(Result::err)?;
-            let NamesFault::BadSubsection { cause, .. } = fault else { return None };
-            Some(place_in(cause))
+            Some(place_in(NamesReader::new(&data).find_map(Result::err)?))
         }
     };
     all.insert(is_so(2, names(b"")));

@@ -4,7 +4,7 @@ use crate::corpus::components;
 use crate::json_value::Value;
 use crate::{component, dump};
 use std::collections::BTreeSet;
-use wenc::{ComponentSection, Encode, ListFault, RawSection, Sections, Unread, list};
+use wenc::{ComponentSection, Encode, RawSection, ReadError, Sections, list};
 
 /// One in this many kinds of damage is tried. Programs that aren't optimized are slow.
 const STEP: usize = if cfg!(debug_assertions) { 9 } else { 3 };
@@ -102,8 +102,8 @@ fn items(size: usize) -> BTreeSet<(u8, Vec<u8>)> {
             if matches!(section.id(), 0 | 1 | 4) {
                 continue;
             }
-            for (range, _) in section.items().flatten().filter(|(range, _)| range.len() <= size) {
-                items.insert((section.id(), bytes[range].to_vec()));
+            for item in section.items().flatten().filter(|item| item.range.len() <= size) {
+                items.insert((section.id(), bytes[item.range].to_vec()));
             }
         }
     }
@@ -224,24 +224,15 @@ fn kinds_of_damage_are_told_apart() {
 }
 
 /// Returns the byte offset of the part that `list` can't read, and where its section ends.
-pub fn part_of(bytes: &[u8], fault: ListFault) -> (usize, usize) {
-    let (section, part) = match fault {
-        ListFault::BadSection { place, .. } => (place, place),
-        ListFault::BadItem { place, unread: Some(unread), .. }
-        | ListFault::TooDeep { place, unread: Some(unread), .. } => match unread {
-            Unread::Count { place: at }
-            | Unread::Item { place: at, .. }
-            | Unread::Behind { place: at } => (place, at),
-        },
-        fault => panic!("{fault}"),
-    };
+pub fn part_of(bytes: &[u8], error: ReadError) -> (usize, usize) {
+    let (section, part) = (error.section, error.offset);
     let mut sections = Sections::at(bytes, section).expect("it is within");
     (part, sections.next_raw().map_or(bytes.len(), |(range, _)| range.end))
 }
 
 /// Returns whether the first fault is that of `list`. Its cause is in the part that `list` can't
 /// read, or the fault has none.
-fn is_fault_of_list(bytes: &[u8], fault: ListFault) -> bool {
+fn is_fault_of_list(bytes: &[u8], fault: ReadError) -> bool {
     let (place, end) = part_of(bytes, fault);
     let (status, out, _) = dump(&["--json"], bytes);
     let json = Value::read(&out);

@@ -76,7 +76,9 @@ fn items_of_worked_components() {
     let mut found = 0;
     for row in sections::ROWS {
         let component = [&Component::HEADER[..], &bytes(row.sections)].concat();
-        for mut item in list(&component).expect("it is listed").into_items() {
+        for mut item in
+            list(&component).expect("it is listed").sections.into_iter().flat_map(|of| of.items)
+        {
             // a module, a component and a custom section are printed in parts
             if matches!(item, ItemTree::Module(_) | ItemTree::Component(_))
                 || matches!(item, ItemTree::Custom { .. })

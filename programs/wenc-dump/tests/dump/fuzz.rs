@@ -81,10 +81,10 @@ fn is_module_read(bytes: &[u8]) -> bool {
 /// Returns whether the component with these bytes, which is this deep in others, can be read.
 fn is_component_read(bytes: &[u8], depth: usize) -> bool {
     let is_read = |section: SectionReader| {
-        section.items().all(|item| match item {
-            Ok((_, ItemView::Component(bytes))) => is_component_read(bytes, depth + 1),
-            Ok((_, ItemView::Module(bytes))) => is_module_read(bytes),
-            Ok((_, item)) => is_custom_read(&item),
+        section.items().all(|item| match item.map(|item| item.view) {
+            Ok(ItemView::Component(bytes)) => is_component_read(bytes, depth + 1),
+            Ok(ItemView::Module(bytes)) => is_module_read(bytes),
+            Ok(item) => is_custom_read(&item),
             Err(_) => false,
         })
     };

@@ -25,7 +25,7 @@ type Imported = BTreeMap<String, BTreeSet<String>>;
 fn imported(component: &[u8]) -> Imported {
     let (mut types, mut imported) = (Vec::new(), Imported::new());
     let sections = Sections::new(component).expect("a component").map(|of| of.expect("a section"));
-    for (_, item) in sections.flat_map(|of| of.items()).flatten() {
+    for item in sections.flat_map(|of| of.items()).flatten().map(|item| item.view) {
         // what an instance of the type exports, if it is the type of one
         let mut declared = BTreeSet::new();
         if let ItemView::Type(TypeView::Instance(all)) = item {

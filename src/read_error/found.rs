@@ -10,16 +10,16 @@ use core::fmt;
 /// Needs the feature `walk`.
 ///
 /// ```
-/// use wenc::{CoreSections, Found, ListFault, ModuleFault, list};
+/// use wenc::{Cause, CoreSections, Found, Sections};
 ///
 /// let module = b"\0asm\x01\0\0\0";
-/// let fault = list(module).unwrap_err();
-/// assert_eq!(fault, ListFault::NotAComponent { place: 0, found: Found::CoreModule });
-/// assert_eq!(fault.to_string(), "no component's header at 0x0: found a core module");
+/// let error = Sections::new(module).unwrap_err();
+/// assert_eq!(error.cause, Cause::Header(Found::CoreModule));
+/// assert_eq!(error.to_string(), "no component's header at 0x0: found a core module");
 ///
-/// let fault = CoreSections::new(b"(module)").unwrap_err();
-/// assert_eq!(fault, ModuleFault::NotAModule { found: Found::Text });
-/// assert_eq!(fault.to_string(), "no core module's header: found WebAssembly text");
+/// let error = CoreSections::new(b"(module)").unwrap_err();
+/// assert_eq!(error.cause, Cause::Header(Found::Text));
+/// assert_eq!(error.to_string(), "no core module's header at 0x0: found WebAssembly text");
 /// ```
 #[derive(Clone, Copy, Debug, PartialEq, Eq, Hash)]
 #[non_exhaustive]
@@ -30,12 +30,43 @@ pub enum Found {
     CoreModule,
     /// A component, where a core module was expected.
     Component,
-    /// A core module or a component of another version of the binary format.
-    OtherVersion,
+    /// A core module or a component of this other version of the binary format.
+    Version(u32),
     /// WebAssembly text, which begins with a parenthesis or a comment.
     Text,
-    /// None of these.
-    Other,
+    /// None of these, with the first bytes.
+    Other(First),
+}
+
+/// The first bytes, at most 8, of what isn't known.
+///
+/// Needs the feature `walk`.
+#[derive(Clone, Copy, Debug, PartialEq, Eq, Hash)]
+pub struct First {
+    bytes: [u8; 8],
+    len: u8,
+}
+
+impl First {
+    fn of(bytes: &[u8]) -> Self {
+        let mut first = Self { bytes: [0; 8], len: bytes.len().min(8) as u8 };
+        first.bytes.iter_mut().zip(bytes).for_each(|(to, from)| *to = *from);
+        first
+    }
+
+    /// Returns the bytes.
+    pub fn as_slice(&self) -> &[u8] {
+        &self.bytes[..self.len.into()]
+    }
+}
+
+/// Writes the bytes in hexadecimal.
+impl fmt::Display for First {
+    #[inline]
+    fn fmt(&self, f: &mut fmt::Formatter<'_>) -> fmt::Result {
+        let mut bytes = self.as_slice().iter().enumerate();
+        bytes.try_for_each(|(at, byte)| write!(f, "{}{byte:02x}", if at == 0 { "" } else { " " }))
+    }
 }
 
 impl Found {
@@ -50,12 +81,14 @@ impl Found {
             Self::CoreModule
         } else if Sections::new(bytes).is_ok() {
             Self::Component
-        } else if bytes.len() >= Component::HEADER.len() && bytes.starts_with(&magic) {
-            Self::OtherVersion
+        } else if let (true, Some(&[_, _, _, _, a, b, c, d])) =
+            (bytes.starts_with(&magic), bytes.first_chunk())
+        {
+            Self::Version(u32::from_le_bytes([a, b, c, d]))
         } else if text.starts_with(b"(") || text.starts_with(b";;") {
             Self::Text
         } else {
-            Self::Other
+            Self::Other(First::of(bytes))
         }
     }
 }
@@ -67,9 +100,11 @@ impl fmt::Display for Found {
             Self::Nothing => "nothing",
             Self::CoreModule => "a core module",
             Self::Component => "a component",
-            Self::OtherVersion => "another version of the format",
             Self::Text => "WebAssembly text",
-            Self::Other => "other bytes",
+            Self::Version(version) => {
+                return write!(f, "another version of the format: version {version:#x}");
+            }
+            Self::Other(first) => return write!(f, "other bytes: {first}"),
         })
     }
 }

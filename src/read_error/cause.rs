@@ -1,5 +1,7 @@
 //! Why bytes can't be read, and from which byte on.
 
+use super::Found;
+use crate::Error;
 use crate::proved::wenc_read::{Expected, Refusal};
 use core::fmt;
 use core::iter::FusedIterator;
@@ -11,6 +13,14 @@ use core::ops::RangeInclusive;
 #[derive(Clone, Copy, Debug, PartialEq, Eq, Hash)]
 #[non_exhaustive]
 pub enum Cause {
+    /// An allocation failed.
+    NoMemory,
+    /// Bytes that don't begin with the header, and what they are instead.
+    Header(Found),
+    /// A component that is nested deeper than this limit.
+    Limit(usize),
+    /// A nested component that was changed can't be encoded again.
+    Unwritten(Error),
     /// A byte in place of which others are expected.
     Byte {
         /// Its byte offset.
@@ -68,26 +78,28 @@ impl Cause {
     }
 
     /// Returns the cause with its byte offset increased by `by`.
-    #[must_use]
-    pub fn moved(mut self, by: usize) -> Self {
+    pub(crate) fn moved(mut self, by: usize) -> Self {
         match &mut self {
             Self::Byte { place, .. }
             | Self::Text { place, .. }
             | Self::Number { place, .. }
             | Self::Few { place, .. }
             | Self::Deep { place } => *place = place.saturating_add(by),
+            Self::NoMemory | Self::Header(_) | Self::Limit(_) | Self::Unwritten(_) => {}
         }
         self
     }
 
-    /// Returns the byte offset of the cause, or of the end where bytes are missing.
-    pub fn place(&self) -> usize {
+    /// Returns the byte offset of the cause, or of the end where bytes are missing; `None` if it is
+    /// that of the part.
+    pub fn place(&self) -> Option<usize> {
         match *self {
-            Self::Few { place, len, .. } => place.saturating_add(len),
+            Self::Few { place, len, .. } => Some(place.saturating_add(len)),
             Self::Byte { place, .. }
             | Self::Text { place, .. }
             | Self::Number { place, .. }
-            | Self::Deep { place } => place,
+            | Self::Deep { place } => Some(place),
+            _ => None,
         }
     }
 
@@ -123,6 +135,10 @@ impl fmt::Display for Cause {
                 )
             }
             Self::Deep { place } => write!(f, "the type at {place:#x} is in 100 others"),
+            Self::NoMemory => f.write_str("no memory"),
+            Self::Header(found) => write!(f, "found {found}"),
+            Self::Limit(limit) => write!(f, "it is more than {limit} deep"),
+            Self::Unwritten(error) => write!(f, "a nested component isn't encoded: {error}"),
         }
     }
 }
