@@ -44,16 +44,19 @@ mod definition;
 mod fault;
 mod follow;
 mod meaning;
+mod paths;
 mod unread;
 
 use crate::tree::Space;
 use alloc::vec::Vec;
+use core::cell::RefCell;
 use core::fmt;
 use core::iter::{self, FusedIterator};
 
 pub use definition::Definition;
 pub use fault::ScopeFault;
 pub use meaning::Meaning;
+use paths::{At, Paths};
 
 /// No definition, or no scope.
 const NONE: u32 = u32::MAX;
@@ -66,7 +69,7 @@ const UNKNOWN: u64 = u64::MAX;
 /// Needs the feature `walk`.
 ///
 /// On a 64-bit machine each item, each declaration of a type, and each export or argument in the
-/// list of an instance takes at most 296 bytes of memory, and a scope that isn't at its end 320
+/// list of an instance takes at most 320 bytes of memory, and a scope that isn't at its end 320
 /// more; a list that grows takes up to twice as much. Each byte is read once, and once more for
 /// each type around it. What a definition is the same as is found when it is read, so that
 /// [`resolve`](Definition::resolve) follows any number of exports and aliases in the time of one.
@@ -79,6 +82,8 @@ pub struct Definitions<'a> {
     names: Vec<(&'a str, u32)>,
     /// The faults of entries that can't be followed, in the order of the entries.
     faults: Vec<(u32, ScopeFault)>,
+    /// The instances that were followed.
+    paths: RefCell<Paths>,
 }
 
 /// A definition.
@@ -101,11 +106,9 @@ struct Entry<'a> {
     /// The next definition of the scope, or of the instance's list.
     next: u32,
     /// The definition that it is the same as.
-    target: u32,
+    target: At,
     /// The last of those that it is the same as: itself if it isn't, or can't be followed.
-    last: u32,
-    /// The first of those that it is the same as, with itself, that has a type.
-    typed: u32,
+    last: At,
     /// The scope that it opens.
     inner: u32,
 }
@@ -115,14 +118,17 @@ struct Frame {
     place: usize,
     /// The scope around it.
     outer: u32,
-    /// The number of entries before its own.
+    /// The number of entries before its own, and before those after it.
     start: u32,
+    end: u32,
     /// Its first and its last entry.
     ends: (u32, u32),
     /// Its exports, in `names`.
     names: (u32, u32),
-    /// The first entry of exports that can't be read.
-    unread: u32,
+    /// The byte offset of the first exports that can't be read.
+    unread: usize,
+    /// The byte offset from which on nothing is read.
+    cut: usize,
     /// The newest entry of each space.
     newest: [u32; Space::ALL.len()],
 }
@@ -130,7 +136,7 @@ struct Frame {
 // What the documentation of `Definitions` states.
 #[cfg(target_pointer_width = "64")]
 const _: () = {
-    assert!(size_of::<(Entry, Frame, (&str, u32), (u32, ScopeFault))>() <= 296);
+    assert!(size_of::<(Entry, Frame, (&str, u32), (u32, ScopeFault))>() <= 320);
     assert!(size_of::<build::Open>() <= 320);
 };
 
@@ -140,9 +146,11 @@ impl Frame {
         place: 0,
         outer: NONE,
         start: 0,
+        end: NONE,
         ends: (NONE, NONE),
         names: (0, 0),
-        unread: NONE,
+        unread: usize::MAX,
+        cut: usize::MAX,
         newest: [NONE; Space::ALL.len()],
     };
 }
@@ -150,7 +158,7 @@ impl Frame {
 impl<'a> Definitions<'a> {
     /// Returns the scope of the outermost component.
     pub fn component(&self) -> Scope<'_, 'a> {
-        Scope { all: self, number: 0, before: NONE, place: 0 }
+        Scope { all: self, number: 0, before: NONE, place: 0, path: NONE }
     }
 
     fn entry(&self, number: u32) -> &Entry<'a> {
@@ -186,6 +194,9 @@ impl<'a> Definitions<'a> {
 
     /// Returns the number of indices in a space that the first entries define.
     fn count(&self, scope: u32, before: u32, space: Space) -> u64 {
+        if before == NONE && self.frame(scope).cut < usize::MAX {
+            return UNKNOWN;
+        }
         self.newest(scope, before, space).map_or(0, |number| self.entry(number).end())
     }
 
@@ -207,8 +218,11 @@ impl<'a> Definitions<'a> {
                 _ => Ok(number),
             },
             _ => {
-                let count = self.count(scope, before, space);
-                Err(ScopeFault::OutOfRange { place, space, index, count })
+                let unread = self.frame(scope).cut;
+                Err(match self.count(scope, before, space) {
+                    UNKNOWN => ScopeFault::Unread { place, space, unread },
+                    count => ScopeFault::OutOfRange { place, space, index, count },
+                })
             }
         }
     }
@@ -243,6 +257,8 @@ pub struct Scope<'s, 'a> {
     before: u32,
     /// The byte offset of the definition that refers to them.
     place: usize,
+    /// The instances through which it is reached.
+    path: u32,
 }
 
 impl<'s, 'a> Scope<'s, 'a> {
@@ -266,7 +282,11 @@ impl<'s, 'a> Scope<'s, 'a> {
     /// before which this scope is seen, or otherwise of the scope.
     pub fn get(self, space: Space, index: u32) -> Result<Definition<'s, 'a>, ScopeFault> {
         let number = self.all.find((self.number, self.before, self.place), space, index)?;
-        Ok(Definition::new(self.all, number))
+        Ok(self.definition(number))
+    }
+
+    fn definition(self, number: u32) -> Definition<'s, 'a> {
+        Definition::new(self.all, At { path: self.path, number })
     }
 
     /// Returns the definition of an index, followed as [`Definition::resolve`] does.
@@ -281,7 +301,12 @@ impl<'s, 'a> Scope<'s, 'a> {
     /// Returns the scope around this one, as it is before it; `None` for the outermost component.
     pub fn outer(self) -> Option<Self> {
         let &Frame { outer, start, place, .. } = self.all.frame(self.number);
-        (outer != NONE).then_some(Self { number: outer, before: start, place, ..self })
+        let path = match self.path {
+            NONE => NONE,
+            path if self.all.path(path).scope == self.number => self.all.path(path).around,
+            path => path,
+        };
+        (outer != NONE).then_some(Self { number: outer, before: start, place, path, ..self })
     }
 
     /// Returns the definitions in their order, with exports, custom sections and others that define
@@ -290,13 +315,13 @@ impl<'s, 'a> Scope<'s, 'a> {
         let numbered = move |number: u32| (number < self.before).then_some(number);
         let first = numbered(self.all.frame(self.number).ends.0);
         let numbers = iter::successors(first, move |number| numbered(self.all.entry(*number).next));
-        numbers.map(move |number| Definition::new(self.all, number))
+        numbers.map(move |number| self.definition(number))
     }
 
-    /// Returns the export with this name, or the first of several. A valid component has one.
+    /// Returns the export with this name, or one of several. A valid component has one.
     pub fn export(self, name: &str) -> Option<Definition<'s, 'a>> {
         let (_, number) = *self.all.exports_named(self.number, name).first()?;
-        (number < self.before).then(|| Definition::new(self.all, number))
+        (number < self.before).then(|| self.definition(number))
     }
 }
 

@@ -1,7 +1,8 @@
 //! Reading the definitions of a component.
 
 use super::meaning::Declarations;
-use super::{Definitions, Entry, Frame, Meaning, NONE};
+use super::paths::At;
+use super::{Definitions, Entry, Frame, Meaning, NONE, ScopeFault};
 use crate::shim::vec::VecUsing;
 use crate::tree::{IndexCounts, Space};
 use crate::view::{CoreInstanceView, InstanceView, ItemView};
@@ -60,7 +61,10 @@ impl<'a> Definitions<'a> {
             tell(fault);
             Ok(())
         });
-        read.unwrap_or_else(tell);
+        if let Err(error) = read {
+            reader.cut(error.offset);
+            tell(error);
+        }
         reader.all
     }
 }
@@ -71,7 +75,7 @@ pub(super) struct Reader<'a> {
     /// The scopes around the next definition, the outermost first.
     pub open: Vec<Open<'a>>,
     /// The exports of these, each with the number of its scope: the innermost's are the greatest.
-    names: BinaryHeap<(u32, &'a str, u32)>,
+    names: BinaryHeap<(u32, &'a str, Option<usize>, u32)>,
     /// The declarations that are left of the types around the next one.
     types: Vec<Declarations<'a>>,
 }
@@ -100,8 +104,8 @@ fn push<T>(all: &mut Vec<T>, value: T) -> Result<(), ReadError> {
 
 impl<'a> Reader<'a> {
     fn new() -> Self {
-        let (entries, frames, names, faults) = Default::default();
-        let all = Definitions { entries, frames, names, faults };
+        let (entries, frames, names, faults, paths) = Default::default();
+        let all = Definitions { entries, frames, names, faults, paths };
         Self { all, open: Vec::new(), names: BinaryHeap::new(), types: Vec::new() }
     }
 
@@ -145,17 +149,19 @@ impl<'a> Reader<'a> {
     fn leave(&mut self) -> Result<Option<Open<'a>>, ReadError> {
         let Some(open) = self.open.pop() else { return Ok(None) };
         let from = self.all.names.len();
-        while let Some((_, name, number)) = self.pop_name(open.scope) {
+        while let Some((_, name, _, number)) = self.pop_name(open.scope) {
             push(&mut self.all.names, (name, number))?;
         }
         self.all.names[from..].reverse();
         let names = (numbered(from)?, numbered(self.all.names.len())?);
-        self.all.frames[open.scope as usize].names = names;
+        let end = numbered(self.all.entries.len())?;
+        let frame = &mut self.all.frames[open.scope as usize];
+        (frame.names, frame.end) = (names, end);
         Ok(Some(open))
     }
 
     /// Takes the greatest of the names of this scope, which is the innermost.
-    fn pop_name(&mut self, scope: u32) -> Option<(u32, &'a str, u32)> {
+    fn pop_name(&mut self, scope: u32) -> Option<(u32, &'a str, Option<usize>, u32)> {
         self.names.peek().filter(|(of, ..)| *of == scope)?;
         self.names.pop()
     }
@@ -245,16 +251,24 @@ impl<'a> Reader<'a> {
         let is_list = self.open.last().is_some_and(|open| open.is_list);
         let innermost = self.open.len().saturating_sub(if is_list { 2 } else { 1 });
         let around = |out| Some(self.open.get(innermost.checked_sub(out)?)?.scope);
-        let (mut target, mut last, mut typed) = (NONE, number, NONE);
-        match self.all.target_of(around, &meaning, place) {
-            Ok(None) => {}
-            Ok(Some(to)) => {
-                (target, last, typed) = (to, self.all.entry(to).last, self.all.entry(to).typed);
+        let (mut target, mut last) = (At::NONE, At::written(number));
+        let found = self.all.target_of(around, &meaning, place);
+        let followed = found.and_then(|found| {
+            let Some(to) = found else { return Ok(()) };
+            target = to;
+            let is_outermost = self.open.len() == 1;
+            if !meaning.is_ascribed() && (is_outermost || !meaning.is_bound()) {
+                // one that can't be followed is its own last, and tells why
+                let is_written = to.path == NONE;
+                let written = || self.all.entry(to.number).last;
+                last = if is_written { written() } else { self.all.stored(to, place)? };
             }
+            Ok(())
+        });
+        match followed {
+            Ok(()) => {}
+            Err(ScopeFault::NoMemory { .. }) => return Err(ReadError::memory()),
             Err(fault) => push(&mut self.all.faults, (number, fault))?,
-        }
-        if meaning.type_index().is_some() {
-            typed = number;
         }
         let scope = self.open.get(innermost).map_or(NONE, |open| open.scope);
         let (first, count, space, depth) = (0, 0, meaning.space(), 0);
@@ -262,7 +276,7 @@ impl<'a> Reader<'a> {
         #[rustfmt::skip]
         let mut entry = Entry {
             meaning, place, first, count, space, scope, previous, jump, depth, next, target, last,
-            typed, inner,
+            inner,
         };
         if let Some((space, count)) = meaning.defined().filter(|_| !is_list) {
             let Open { counts, assumed, .. } = &mut self.open[innermost];
@@ -271,7 +285,7 @@ impl<'a> Reader<'a> {
             assumed.iter_mut().for_each(|counts| counts.define(Some((space, count))));
             self.chain(space, number, &mut entry);
         }
-        self.link(number, meaning.export())?;
+        self.link(number, meaning.export(), meaning.space())?;
         push(&mut self.all.entries, entry)
     }
 
@@ -292,11 +306,16 @@ impl<'a> Reader<'a> {
     }
 
     /// Adds an entry to the innermost scope, and to its exports if it has a name.
-    fn link(&mut self, number: u32, name: Option<&'a str>) -> Result<(), ReadError> {
+    fn link(
+        &mut self,
+        number: u32,
+        name: Option<&'a str>,
+        space: Option<Space>,
+    ) -> Result<(), ReadError> {
         let Some(open) = self.open.last() else { return Ok(()) };
         if let Some(name) = name {
             self.names.try_reserve(1).map_err(|_| ReadError::memory())?;
-            self.names.push((open.scope, name, number));
+            self.names.push((open.scope, name, space.map(Space::number), number));
         }
         let (first, last) = &mut self.all.frames[open.scope as usize].ends;
         if *first == NONE {

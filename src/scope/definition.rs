@@ -1,8 +1,12 @@
 //! One definition.
 
-use super::{Definitions, Meaning, NONE, Scope, ScopeFault};
+use super::paths::At;
+use super::{Definitions, Entry, Meaning, NONE, Scope, ScopeFault};
 use crate::tree::Space;
+use crate::view::ItemView;
+use core::cmp::Ordering;
 use core::fmt;
+use core::hash::{Hash, Hasher};
 
 /// An item or a declaration, or an export or an argument in the list of an instance.
 ///
@@ -10,57 +14,88 @@ use core::fmt;
 #[derive(Clone, Copy)]
 pub struct Definition<'s, 'a> {
     all: &'s Definitions<'a>,
-    number: u32,
+    at: At,
 }
 
 impl<'s, 'a> Definition<'s, 'a> {
-    pub(super) fn new(all: &'s Definitions<'a>, number: u32) -> Self {
-        Self { all, number }
+    pub(super) fn new(all: &'s Definitions<'a>, at: At) -> Self {
+        Self { all, at }
+    }
+
+    fn entry(self) -> &'s Entry<'a> {
+        self.all.entry(self.at.number)
     }
 
     /// Returns the item, the declaration or the member of a list that it is.
     pub fn meaning(self) -> Meaning<'a> {
-        self.all.entry(self.number).meaning
+        self.entry().meaning
     }
 
     /// Returns its byte offset, from the start of the outermost component. For an export or an
     /// argument in the list of an instance it is that of the instance.
     pub fn place(self) -> usize {
-        self.all.entry(self.number).place
+        self.entry().place
     }
 
     /// Returns the index space of its kind; `None` for a custom section.
     pub fn space(self) -> Option<Space> {
-        self.all.entry(self.number).space
+        self.entry().space
     }
 
     /// Returns its index, or the first of several; `None` if it defines none, or if the index depends
     /// on items that can't be read. A recursion group has one for each of its types, a start function
     /// one for each of its results.
     pub fn index(self) -> Option<u32> {
-        let entry = self.all.entry(self.number);
+        let entry = self.entry();
         u32::try_from(entry.first).ok().filter(|_| entry.count > 0)
     }
 
     /// Returns the number of its indices.
     pub fn count(self) -> u32 {
-        self.all.entry(self.number).count
+        self.entry().count
     }
 
     /// Returns the scope that its own indices belong to, as far as it is defined before this
     /// definition. It doesn't have the types of the same recursion group, which may refer to each
     /// other.
     pub fn scope(self) -> Scope<'s, 'a> {
-        let entry = self.all.entry(self.number);
-        Scope { all: self.all, number: entry.scope, before: self.number, place: entry.place }
+        let &Entry { scope: number, place, .. } = self.entry();
+        Scope { all: self.all, number, before: self.at.number, place, path: self.at.path }
     }
 
-    /// Returns the scope that a component, a component type, an instance type or a module type has;
-    /// of an instance the list of its exports or of its arguments, as definitions.
+    /// Returns the scope that a component, a component type, an instance type or a module type has,
+    /// as it is written; of an instance the list of its exports or of its arguments, as definitions.
     pub fn inner(self) -> Option<Scope<'s, 'a>> {
-        let entry = self.all.entry(self.number);
-        let scope = Scope { all: self.all, number: entry.inner, before: NONE, place: entry.place };
-        (entry.inner != NONE).then_some(scope)
+        let &Entry { inner, place, .. } = self.entry();
+        let scope = Scope { all: self.all, number: inner, before: NONE, place, path: self.at.path };
+        (inner != NONE).then_some(scope)
+    }
+
+    /// Returns the name of an import or an export, also of a declared one, or of an argument.
+    pub fn name(self) -> Option<&'a str> {
+        match self.meaning() {
+            Meaning::Item(ItemView::Import { name, .. }) => Some(name.name),
+            meaning => meaning.export(),
+        }
+    }
+
+    /// Returns the instance through which it is reached; `None` if it is as it is written. What an
+    /// instance exports by its type is reached through it, too.
+    pub fn instance(self) -> Option<Self> {
+        let path = (self.at.path != NONE).then(|| self.all.path(self.at.path));
+        path.map(|path| Self { at: path.instance, ..self })
+    }
+
+    /// Returns the import of the outermost component that it comes from, after resolving it: what
+    /// is imported, or exported by it at any depth. `None` if it is defined in the component.
+    ///
+    /// # Errors
+    ///
+    /// Those of [`resolve`](Self::resolve).
+    pub fn origin(self) -> Result<Option<Self>, ScopeFault> {
+        let head = Self { at: At::written(self.all.head(self.resolve()?.at)), ..self };
+        let is_import = matches!(head.meaning(), Meaning::Item(ItemView::Import { .. }));
+        Ok((is_import && head.entry().scope == 0).then_some(head))
     }
 
     /// Returns the definition that this one is the same as: the exported or aliased item, the
@@ -73,42 +108,40 @@ impl<'s, 'a> Definition<'s, 'a> {
     ///
     /// Why there is no such definition.
     pub fn target(self) -> Result<Option<Self>, ScopeFault> {
-        let entry = self.all.entry(self.number);
-        if let Some(fault) = self.all.fault_of(self.number) {
+        let entry = self.entry();
+        if let Some(fault) = self.all.fault_of(self.at.number) {
             return Err(fault);
         }
-        Ok((entry.target != NONE).then_some(Self { number: entry.target, ..self }))
+        let of = |at| Some(Self { at, ..self });
+        if self.at.path == NONE {
+            return Ok((entry.target != At::NONE).then_some(Self { at: entry.target, ..self }));
+        }
+        self.all.target_through(self.at).map(|at| at.and_then(of))
     }
 
     /// Returns the last of the definitions that this one is the same as, or itself if there is
     /// none.
     ///
-    /// Imports aren't followed, except of types with the bound `Eq`: neither are those of a nested
-    /// component, for which an instance has an [argument](Meaning::Argument).
+    /// Imports aren't followed, except of types with the bound `Eq`, and those of a component that
+    /// was instantiated on the way: they are the [arguments](Meaning::Argument). An export with an
+    /// ascribed type isn't followed either: it is a definition of its own.
     ///
     /// # Errors
     ///
     /// Why one of them can't be followed.
     pub fn resolve(self) -> Result<Self, ScopeFault> {
-        let number = self.all.last_of(self.number)?;
-        Ok(Self { number, ..self })
+        Ok(Self { at: self.all.value(self.at, self.place())?, ..self })
     }
 
     /// Returns the type of a function, an instance, a component or a core module, resolved: that of
     /// an import or a declared export, the one that is ascribed to an export, or a lifted
-    /// function's; of this definition, or of the next one that it is the same as and that has one.
-    /// `None` if there is none.
+    /// function's, of this definition as it is resolved. `None` if there is none.
     ///
     /// # Errors
     ///
     /// Why this definition or its type can't be followed.
     pub fn ty(self) -> Result<Option<Self>, ScopeFault> {
-        self.all.last_of(self.number)?;
-        let typed = self.all.entry(self.number).typed;
-        if typed == NONE {
-            return Ok(None);
-        }
-        let of = Self { number: typed, ..self };
+        let of = self.resolve()?;
         let Some((space, index)) = of.meaning().type_index() else { return Ok(None) };
         of.scope().resolve(space, index).map(Some)
     }
@@ -122,9 +155,9 @@ impl<'s, 'a> Definition<'s, 'a> {
     /// Why this definition, its component or its type can't be followed.
     pub fn exports(self) -> Result<Option<Scope<'s, 'a>>, ScopeFault> {
         let last = self.resolve()?;
-        let number = self.all.exports_of(last.number)?;
-        let place = last.place();
-        Ok(number.map(|number| Scope { all: self.all, number, before: NONE, place }))
+        let (exports, place) = (self.all.exports_of(last.at, last.place())?, last.place());
+        let scope = |(number, path)| Scope { all: self.all, number, before: NONE, place, path };
+        Ok(exports.map(scope))
     }
 }
 
@@ -137,11 +170,39 @@ impl fmt::Debug for Definition<'_, '_> {
     }
 }
 
+/// What an order and a hash are of: which component, which instances, and which definition.
+type Key = (*const (), At);
+
+impl Definition<'_, '_> {
+    fn key(&self) -> Key {
+        (core::ptr::from_ref(self.all).cast(), self.at)
+    }
+}
+
 impl PartialEq for Definition<'_, '_> {
-    /// Whether both are the same definition of the same component.
+    /// Whether both are the same definition of the same component, reached through the same
+    /// instances: two [resolved](Self::resolve) resources are the same exactly if this holds.
     fn eq(&self, other: &Self) -> bool {
-        core::ptr::eq(self.all, other.all) && self.number == other.number
+        self.key() == other.key()
     }
 }
 
 impl Eq for Definition<'_, '_> {}
+
+impl PartialOrd for Definition<'_, '_> {
+    fn partial_cmp(&self, other: &Self) -> Option<Ordering> {
+        Some(self.cmp(other))
+    }
+}
+
+impl Ord for Definition<'_, '_> {
+    fn cmp(&self, other: &Self) -> Ordering {
+        self.key().cmp(&other.key())
+    }
+}
+
+impl Hash for Definition<'_, '_> {
+    fn hash<H: Hasher>(&self, state: &mut H) {
+        self.key().hash(state);
+    }
+}

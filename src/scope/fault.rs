@@ -56,6 +56,21 @@ pub enum ScopeFault {
         /// The space of the component, the instance or the core module.
         space: Space,
     },
+    /// It is reached through more than 100 instances, or in too many steps.
+    TooDeep {
+        /// The byte offset of the item that refers to it.
+        place: usize,
+    },
+    /// It depends on what a core module exports, whose bytes aren't read.
+    Opaque {
+        /// The byte offset of the item that refers to it.
+        place: usize,
+    },
+    /// An allocation failed.
+    NoMemory {
+        /// The byte offset of the item that refers to it.
+        place: usize,
+    },
 }
 
 impl ScopeFault {
@@ -66,7 +81,10 @@ impl ScopeFault {
             | Self::NoExport { place, .. }
             | Self::OtherExport { place, .. }
             | Self::Unread { place, .. }
-            | Self::OtherType { place, .. } => place,
+            | Self::OtherType { place, .. }
+            | Self::TooDeep { place }
+            | Self::Opaque { place }
+            | Self::NoMemory { place } => place,
         }
     }
 }
@@ -90,6 +108,13 @@ impl fmt::Display for ScopeFault {
             Self::OtherType { place, space } => {
                 write!(f, "the type at {place:#x} is of no {space}")
             }
+            Self::TooDeep { place } => {
+                write!(f, "what is meant at {place:#x} is reached through too many instances")
+            }
+            Self::Opaque { place } => {
+                write!(f, "what is meant at {place:#x} depends on a core module")
+            }
+            Self::NoMemory { place } => write!(f, "no memory at {place:#x}"),
         }
     }
 }

@@ -46,8 +46,9 @@ pub enum Meaning<'a> {
     /// Items of a section from a byte offset on that can't be read, once for each space in which
     /// such items define indices (see [`Definitions::past_faults`](super::Definitions::past_faults)).
     Unread {
-        /// The section.
-        section: ComponentSectionId,
+        /// The section; `None` for what may be items of any: a section whose id or size can't be
+        /// read, or a component that isn't entered.
+        section: Option<ComponentSectionId>,
         /// The space.
         space: Space,
         /// The number of indices that they define in it, if it is known.
@@ -142,6 +143,22 @@ impl<'a> Meaning<'a> {
             }
             _ => None,
         }
+    }
+
+    /// Returns whether it is an export with a type of its own, which thus isn't the same as what is
+    /// exported. A type with the bound `Eq` is.
+    pub(super) fn is_ascribed(&self) -> bool {
+        let Self::Item(ItemView::Export { ty: Some(ty), .. }) = self else { return false };
+        !matches!(ty, ComponentTypeRef::Type(TypeBounds::Eq(_)) | ComponentTypeRef::Value(_))
+    }
+
+    /// Returns whether it is an import or a declared export of a type that is the same as another
+    /// one, unless an instance has an argument for it, or exports another.
+    pub(super) fn is_bound(&self) -> bool {
+        let (Self::Item(ItemView::Import { ty, .. }) | Self::Declared { ty, .. }) = self else {
+            return false;
+        };
+        matches!(ty, ComponentTypeRef::Type(TypeBounds::Eq(_)))
     }
 
     /// Returns the definition that it is the same as.

@@ -1,37 +1,38 @@
 //! Items that can't be read, and the indices after them.
 
-use super::build::{Reader, numbered};
+use super::build::Reader;
 use super::{Meaning, NONE, UNKNOWN};
 use crate::tree::{Scope, Space};
 use crate::view::ItemView;
 use crate::{ComponentSectionId, Part, ReadError};
 
 impl Reader<'_> {
-    /// Adds what isn't read from this byte offset on, with this number of items.
+    /// Adds what isn't read from this byte offset on, with this number of items; their number isn't
+    /// known if they are behind the last item by the section's count.
     pub fn unread(&mut self, error: &ReadError, place: usize, count: u32) -> Result<(), ReadError> {
-        let Some(open) = self.open.last_mut().filter(|_| error.part != Part::Rest) else {
-            return Ok(());
-        };
-        let Some(Ok(section)) = error.id.map(ComponentSectionId::try_from) else {
+        let id = error.id.filter(|_| error.part != Part::Depth);
+        let (Some(Ok(section)), Some(open)) =
+            (id.map(ComponentSectionId::try_from), self.open.last_mut())
+        else {
             return self.unknown(place);
         };
-        let is_canonical = section == ComponentSectionId::CanonicalFunction;
+        // how many canonical functions there are isn't known without their count
+        let is_canonical = section == ComponentSectionId::CanonicalFunction && count > 0;
         let frame = &mut self.all.frames[open.scope as usize];
-        if is_canonical && count > 0 {
+        if is_canonical {
             open.assumed.get_or_insert(open.counts);
         } else if section == ComponentSectionId::Export {
-            frame.unread = frame.unread.min(numbered(self.all.entries.len())?);
+            frame.unread = frame.unread.min(place);
         }
         for &space in section.spaces() {
             let count = if is_canonical && space == Space::CoreFuncs { count } else { 0 };
+            let section = Some(section);
             let meaning = Meaning::Unread { section, space, count, is_known: false };
             self.define(place, meaning, NONE)?;
         }
         if let Some(open) = self.open.last_mut() {
             open.counts.add_unread(section);
-            // how many canonical functions there are isn't known without their count
-            let is_assumed = is_canonical && count > 0;
-            open.assumed.iter_mut().filter(|_| !is_assumed).for_each(|of| of.add_unread(section));
+            open.assumed.iter_mut().filter(|_| !is_canonical).for_each(|of| of.add_unread(section));
         }
         Ok(())
     }
@@ -40,20 +41,26 @@ impl Reader<'_> {
     fn unknown(&mut self, place: usize) -> Result<(), ReadError> {
         let Some(open) = self.open.last_mut() else { return Ok(()) };
         let frame = &mut self.all.frames[open.scope as usize];
-        frame.unread = frame.unread.min(numbered(self.all.entries.len())?);
-        let section = ComponentSectionId::Component;
+        frame.unread = frame.unread.min(place);
         for space in Space::ALL {
-            self.define(
-                place,
-                Meaning::Unread { section, space, count: 0, is_known: false },
-                NONE,
-            )?;
+            let meaning = Meaning::Unread { section: None, space, count: 0, is_known: false };
+            self.define(place, meaning, NONE)?;
         }
         if let Some(open) = self.open.last_mut() {
             open.counts.add_unknown();
             open.assumed = None;
         }
         Ok(())
+    }
+
+    /// Ends all scopes at this byte offset, from which on nothing is read, for lack of memory or of a
+    /// header.
+    pub fn cut(&mut self, place: usize) {
+        for open in &self.open {
+            let frame = &mut self.all.frames[open.scope as usize];
+            frame.unread = frame.unread.min(place);
+            frame.cut = place;
+        }
     }
 
     /// Finds out whether all canonical functions that can't be read are core functions: if an item

@@ -272,7 +272,8 @@ fn types_of_definitions() {
     assert_eq!(resource.resolve(), Ok(resource));
 }
 
-/// An export has the type that is ascribed to it, and so has one of that; an alias hasn't.
+/// An export with an ascribed type is a definition of its own: it has that type, and so has an export
+/// of it.
 #[test]
 fn ascribed_types() {
     // functions 0 and 1 are imports of types 0 and 1, 2 and 3 exports of 0 and 2, 4 one of 1
@@ -287,7 +288,9 @@ fn ascribed_types() {
     };
     assert_eq!([0, 1, 2, 3, 4].map(ty), [0, 1, 1, 1, 1].map(Some));
     let targets = [0, 1, 2, 3, 4].map(|index| resolved(all.component(), Space::Funcs, index));
-    assert_eq!(targets, [22, 27, 22, 22, 27].map(Ok));
+    assert_eq!(targets, [22, 27, 35, 35, 27].map(Ok));
+    let export = all.component().get(Space::Funcs, 2).unwrap();
+    assert_eq!(export.target().unwrap().map(Definition::place), Some(22));
 }
 
 /// Items at 11 with an index that is out of range, as one of a cycle is: its space, the index, and
@@ -350,11 +353,14 @@ fn past_faults(component: Vec<u8>) -> (Definitions<'static>, usize) {
 fn past_a_fault() {
     let ty = many(7, &[b"\x79"]);
     for (sections, types, faults) in [
-        // what isn't a section, or has no count, may define any number
+        // what isn't a section, or has no count, may define any number; nor is known what is after it
         ([&ty[..], &section(10, b"\x80"), &ty].concat(), u64::MAX, 1),
         ([&ty[..], b"\x0b\x7f\x01", &ty].concat(), u64::MAX, 1),
         ([&ty[..], &nested(b"\x07\x02\x01\x79\x07\x01\x01"), &ty].concat(), 2, 1),
-        ([&ty[..], &section(7, b"\x02\x79\x42\x01\x01\x79\x07"), &ty].concat(), 4, 1),
+        // nor after bytes behind the last item
+        ([&ty[..], &section(7, b"\x01\x79\x79"), &ty].concat(), u64::MAX, 1),
+        ([&ty[..], &section(8, b"\x01\x05\x05"), &ty].concat(), 2, 1),
+        ([&ty[..], &section(7, b"\x02\x79\x42\x01\x01\x79\x07"), &ty].concat(), u64::MAX, 1),
         ([&ty[..], &section(7, b"\x02\x79\x42\x01\x01\x79"), &ty].concat(), 4, 0),
         ([&ty[..], &section(8, b"\x01\x07"), &section(9, b"\x80"), &ty].concat(), 2, 2),
         ([&ty[..], &section(8, b"\x01\x07"), &section(10, b"\x01"), &ty].concat(), u64::MAX, 2),
@@ -518,4 +524,92 @@ fn faults() {
     let all = component(b"");
     let missing = ScopeFault::OutOfRange { place: 0, space: Space::Values, index: 0, count: 0 };
     assert_eq!(read(all).component().get(Space::Values, 0).err(), Some(missing));
+}
+
+/// A resource is another one in each instance, as written in one instance type or one component.
+#[test]
+fn resources_of_instances() {
+    // imports a and b of one type, and an alias of the resource of each
+    let ty: &[u8] = b"\x42\x01\x04\0\x01r\x03\x01";
+    let imports = many(10, &[b"\0\x01a\x05\0", b"\0\x01b\x05\0"]);
+    let aliases = many(6, &[b"\x03\0\0\x01r", b"\x03\0\x01\x01r", b"\x03\0\0\x01r"]);
+    let all = read(component(&[many(7, &[ty]), imports, aliases].concat()));
+    let ty = |index| all.component().resolve(Space::Types, index).expect("it is followed");
+    assert!(ty(1) != ty(2) && ty(1) == ty(3) && ty(1).place() == ty(2).place());
+    let origin = [1, 2].map(|index| ty(index).origin().unwrap().and_then(Definition::name));
+    assert_eq!(origin, [Some("a"), Some("b")]);
+    assert_eq!(ty(2).instance().and_then(Definition::index), Some(1));
+    // a component that defines one and exports it, instantiated twice
+    let inner = [many(7, &[b"\x3f\x7f\0"]), section(11, b"\x01\0\x01r\x03\0\0")];
+    let instances = many(5, &[b"\0\0\0", b"\0\0\0"]);
+    let aliases = many(6, &[b"\x03\0\0\x01r", b"\x03\0\x01\x01r"]);
+    let all = read(component(&[nested(&inner.concat()), instances, aliases].concat()));
+    let ty = |index| all.component().resolve(Space::Types, index).expect("it is followed");
+    assert!(ty(0) != ty(1) && ty(0).place() == ty(1).place());
+    assert_eq!(ty(0).origin(), Ok(None));
+}
+
+/// A component that exports what it imports, in another, and so on: an import is its argument at any
+/// depth. Each passes twice through the one in it, which takes no longer.
+#[test]
+fn arguments_at_any_depth() {
+    let import = section(10, b"\x01\0\x01t\x03\x01");
+    let mut inner = [&import[..], &section(11, b"\x01\0\x01e\x03\0\0")].concat();
+    for _ in 0..60 {
+        let first = many(5, &[b"\0\0\x01\x01t\x03\0"]);
+        let again = many(5, &[b"\0\0\x01\x01t\x03\x01"]);
+        let (alias, last) = (many(6, &[b"\x03\0\0\x01e"]), many(6, &[b"\x03\0\x01\x01e"]));
+        let export = section(11, b"\x01\0\x01e\x03\x02\0");
+        let mut size = Vec::new();
+        let nested = component(&inner);
+        let mut len = nested.len();
+        while len > 0x7f {
+            size.push(u8::try_from(len & 0x7f).expect("seven bits") | 0x80);
+            len >>= 7;
+        }
+        size.push(u8::try_from(len).expect("seven bits"));
+        let nested = [&[4][..], &size, &nested].concat();
+        inner = [import.clone(), nested, first, alias, again, last, export].concat();
+        let all = read(component(&inner));
+        let export = all.component().export("e").expect("it is there");
+        assert_eq!(export.resolve(), all.component().get(Space::Types, 0));
+    }
+}
+
+/// A component that is passed itself, which the validator refuses, instantiates it for ever.
+#[test]
+fn what_has_no_end() {
+    // components with an export `y`
+    let ty = many(7, &[b"\x41\x01\x04\0\x01y\x03\x01"]);
+    let import = section(10, b"\x01\0\x01x\x04\0");
+    let instance = many(5, &[b"\0\0\x01\x01x\x04\0"]);
+    let alias = many(6, &[b"\x03\0\0\x01y"]);
+    let export = section(11, b"\x01\0\x01y\x03\x01\0");
+    let inner = nested(&[&ty[..], &import, &instance, &alias, &export].concat());
+    let all = read(component(&[&inner[..], &instance, &alias].concat()));
+    let fault = all.component().resolve(Space::Types, 0);
+    assert!(matches!(fault, Err(ScopeFault::TooDeep { .. })), "{fault:?}");
+    let export = inner_export(&all);
+    assert!(export.resolve().is_ok());
+}
+
+/// The export of component 0, as it is written.
+fn inner_export<'s>(all: &'s Definitions<'static>) -> Definition<'s, 'static> {
+    inner(all.component(), Space::Components, 0).export("y").expect("it is there")
+}
+
+/// An instance that is exported with a type has what that type exports, and nothing else.
+#[test]
+fn exports_of_an_ascribed_type() {
+    let wide: &[u8] = b"\x42\x03\x01\x40\0\x01\0\x04\0\x01f\x01\0\x04\0\x01g\x01\0";
+    let narrow: &[u8] = b"\x42\x02\x01\x40\0\x01\0\x04\0\x01f\x01\0";
+    let import = section(10, b"\x01\0\x01x\x05\0");
+    let export = section(11, b"\x01\0\x01y\x05\0\x01\x05\x01");
+    let all = read(component(&[many(7, &[wide, narrow]), import, export].concat()));
+    let count = |index| {
+        let of = all.component().get(Space::Instances, index).expect("it is there");
+        let exports = of.exports().expect("it is followed").expect("it has exports");
+        exports.definitions().filter(|of| of.name().is_some()).count()
+    };
+    assert_eq!((count(0), count(1)), (2, 1));
 }

@@ -1,30 +1,18 @@
 //! Types as WIT.
 
-use super::{Buffer, Id, Unwritten, Written};
+use super::names::is_id;
+use super::{Buffer, Found, Id, Unwritten, Wit, Written};
 use std::fmt::{self, Display, Write};
 use wenc::scope::{Definition, Meaning, Scope};
 use wenc::tree::Space;
 use wenc::view::{DefinedView, ItemView, TypeView};
-use wenc::{ComponentExportKind, ComponentTypeRef, ComponentValType};
+use wenc::{ComponentValType, ComponentValType as Val};
 
 /// The maximum nesting depth of types without names.
 const DEPTH: usize = 100;
 
 /// The maximum number of bytes of a type: a type without a name is written wherever it is used.
 const LENGTH: usize = 1 << 12;
-
-/// Returns the name that a type has where it is, if it has one.
-pub(super) fn name_of<'a>(of: Definition<'_, 'a>) -> Option<&'a str> {
-    match of.meaning() {
-        Meaning::Item(ItemView::Export { name, kind: ComponentExportKind::Type, .. })
-        | Meaning::Declared { name, ty: ComponentTypeRef::Type(_) } => Some(name.name),
-        // a linker chose the names of what an instantiated component imports
-        Meaning::Item(ItemView::Import { name, ty: ComponentTypeRef::Type(_) }) => {
-            of.scope().outer().is_none().then_some(name.name)
-        }
-        _ => None,
-    }
-}
 
 /// The text of types.
 #[derive(Default)]
@@ -40,142 +28,153 @@ impl Display for Text {
 }
 
 impl Text {
+    pub fn put(&mut self, text: fmt::Arguments) -> Written {
+        self.text.write_fmt(text).map_err(|_| Unwritten::NoMemory)
+    }
+
+    /// Appends a name.
+    pub fn id(&mut self, place: usize, name: &str) -> Written {
+        if !is_id(name) {
+            return Err(Unwritten::Other(place, "a name that isn't one of WIT"));
+        }
+        self.put(format_args!("{}", Id(name)))
+    }
+}
+
+/// The parts of a function's type as they are written.
+pub(super) struct Function {
+    pub params: Vec<(String, String)>,
+    pub result: Option<String>,
+    pub is_async: bool,
+}
+
+impl Function {
+    /// The parameters, without the first ones.
+    pub fn params(&self, skipped: usize) -> String {
+        let all = self.params.iter().skip(skipped).map(|(name, ty)| format!("{name}: {ty}"));
+        all.collect::<Vec<_>>().join(", ")
+    }
+
+    /// The result with an arrow before it.
+    pub fn result(&self) -> String {
+        self.result.as_ref().map_or(String::new(), |ty| format!(" -> {ty}"))
+    }
+}
+
+impl<'s, 'a> Wit<'s, 'a> {
     /// Appends a type of values, in this scope.
-    pub fn value(&mut self, scope: Scope, ty: ComponentValType) -> Written {
+    pub(super) fn value(&mut self, text: &mut Text, scope: Scope<'s, 'a>, ty: Val) -> Written {
         match ty {
-            ComponentValType::Primitive(ty) => self.put(format_args!("{ty}")),
-            ComponentValType::Type(index) => self.index(scope, index),
+            Val::Primitive(ty) => text.put(format_args!("{ty}")),
+            Val::Type(index) => self.index(text, scope, index),
         }
     }
 
     /// Appends a type by its name, or else as it is defined.
-    fn index(&mut self, scope: Scope, index: u32) -> Written {
-        let mut ty = scope.get(Space::Types, index)?;
-        loop {
-            if let Some(name) = name_of(ty) {
-                return self.put(format_args!("{}", Id(name)));
-            }
-            match ty.target()? {
-                Some(target) => ty = target,
-                None => break,
-            }
-        }
-        let place = ty.place();
-        if self.depth == DEPTH || self.text.0.len() > LENGTH {
-            return Err(Unwritten::Other(place, "a type that is too large"));
+    fn index(&mut self, text: &mut Text, scope: Scope<'s, 'a>, index: u32) -> Written {
+        let ty = match self.named(scope.get(Space::Types, index)?)? {
+            Found::Name(name) => return text.put(format_args!("{}", Id(&name))),
+            Found::Definition(ty) => ty,
+        };
+        if text.depth == DEPTH || text.text.0.len() > LENGTH {
+            return Err(Unwritten::Other(ty.place(), "a type that is too large"));
         }
         let Meaning::Item(ItemView::Type(TypeView::Defined(defined))) = ty.meaning() else {
-            return Err(Unwritten::Other(place, "a type without a name"));
+            return Err(Unwritten::Other(ty.place(), "a type without a name"));
         };
-        self.depth += 1;
-        let written = self.defined(ty, defined);
-        self.depth -= 1;
+        text.depth += 1;
+        let written = self.defined(text, ty, defined);
+        text.depth -= 1;
         written
     }
 
     /// Appends the definition of a type that needs no name.
-    pub fn defined(&mut self, of: Definition, ty: DefinedView) -> Written {
+    pub(super) fn defined(
+        &mut self,
+        text: &mut Text,
+        of: Definition<'s, 'a>,
+        ty: DefinedView<'a>,
+    ) -> Written {
         let scope = of.scope();
-        match ty {
-            DefinedView::Primitive(ty) => self.put(format_args!("{ty}")),
+        let (name, types) = match ty {
+            DefinedView::Primitive(ty) => return text.put(format_args!("{ty}")),
+            DefinedView::Tuple(types) if types.len() == 0 => {
+                return Err(Unwritten::Other(of.place(), "a type without members"));
+            }
             DefinedView::Tuple(types) => {
-                self.put(format_args!("tuple"))?;
-                self.arguments(scope, types.map(Some))
+                text.put(format_args!("tuple"))?;
+                return self.arguments(text, scope, types.map(Some));
             }
-            DefinedView::List(ty) => self.generic(scope, "list", [Some(ty)]),
+            DefinedView::List(ty) => ("list", [Some(ty), None]),
             DefinedView::FixedLengthList { element, length } => {
-                self.put(format_args!("list<"))?;
-                self.value(scope, element)?;
-                self.put(format_args!(", {length}>"))
+                text.put(format_args!("list<"))?;
+                self.value(text, scope, element)?;
+                return text.put(format_args!(", {length}>"));
             }
-            DefinedView::Map { key, value } => self.generic(scope, "map", [Some(key), Some(value)]),
-            DefinedView::Option(ty) => self.generic(scope, "option", [Some(ty)]),
-            DefinedView::Result { ok, err } => self.generic(scope, "result", [ok, err]),
-            DefinedView::Own(index) => self.index(scope, index),
-            DefinedView::Borrow(index) => {
-                self.generic(scope, "borrow", [Some(ComponentValType::Type(index))])
-            }
-            DefinedView::Future(ty) => self.generic(scope, "future", [ty]),
-            DefinedView::Stream(ty) => self.generic(scope, "stream", [ty]),
+            DefinedView::Map { key, value } => ("map", [Some(key), Some(value)]),
+            DefinedView::Option(ty) => ("option", [Some(ty), None]),
+            DefinedView::Result { ok, err } => ("result", [ok, err]),
+            DefinedView::Own(index) => return self.index(text, scope, index),
+            DefinedView::Borrow(index) => ("borrow", [Some(ComponentValType::Type(index)), None]),
+            DefinedView::Future(ty) => ("future", [ty, None]),
+            DefinedView::Stream(ty) => ("stream", [ty, None]),
             DefinedView::Record(_)
             | DefinedView::Variant(_)
             | DefinedView::Flags(_)
-            | DefinedView::Enum(_) => Err(Unwritten::Other(of.place(), "a type without a name")),
-        }
-    }
-
-    /// Appends the name of a generic type and its arguments. An absent one is `_`, or is left out
-    /// if none follows it.
-    fn generic<const N: usize>(
-        &mut self,
-        scope: Scope,
-        name: &str,
-        types: [Option<ComponentValType>; N],
-    ) -> Written {
-        self.put(format_args!("{name}"))?;
+            | DefinedView::Enum(_) => {
+                return Err(Unwritten::Other(of.place(), "a type without a name"));
+            }
+        };
+        // an absent argument is `_`, or is left out if none follows it
+        text.put(format_args!("{name}"))?;
         match types.iter().rposition(Option::is_some) {
-            Some(last) => self.arguments(scope, types.into_iter().take(last + 1)),
+            Some(last) => self.arguments(text, scope, types.into_iter().take(last + 1)),
             None => Ok(()),
         }
     }
 
     fn arguments(
         &mut self,
-        scope: Scope,
-        types: impl Iterator<Item = Option<ComponentValType>>,
+        text: &mut Text,
+        scope: Scope<'s, 'a>,
+        types: impl Iterator<Item = Option<Val>>,
     ) -> Written {
         let mut lead = "<";
         for ty in types {
-            self.put(format_args!("{lead}"))?;
+            text.put(format_args!("{lead}"))?;
             lead = ", ";
             match ty {
-                Some(ty) => self.value(scope, ty)?,
-                None => self.put(format_args!("_"))?,
+                Some(ty) => self.value(text, scope, ty)?,
+                None => text.put(format_args!("_"))?,
             }
         }
-        self.put(format_args!(">"))
+        text.put(format_args!(">"))
     }
 
-    /// Appends the parameters and the result of a function, without the first ones if it is a
-    /// method, and without the result if it is a constructor that returns its resource.
-    pub fn function(&mut self, ty: Definition, skipped: usize, is_constructor: bool) -> Written {
-        let Meaning::Item(ItemView::Type(TypeView::Func { params, result, .. })) = ty.meaning()
+    /// Returns the parts of a function's type.
+    pub(super) fn signature(&mut self, of: Definition<'s, 'a>) -> Result<Function, Unwritten> {
+        let ty = of.ty()?.ok_or(Unwritten::Other(of.place(), "a function without a type"))?;
+        let Meaning::Item(ItemView::Type(TypeView::Func { is_async, params, result })) =
+            ty.meaning()
         else {
             return Err(Unwritten::Other(ty.place(), "a type that isn't a function's"));
         };
-        let mut lead = "(";
-        for (name, ty_of) in params.skip(skipped) {
-            self.put(format_args!("{lead}{}: ", Id(name)))?;
-            lead = ", ";
-            self.value(ty.scope(), ty_of)?;
+        let (scope, mut all) = (ty.scope(), Vec::new());
+        for (name, ty_of) in params {
+            let (mut id, mut text) = (Text::default(), Text::default());
+            id.id(ty.place(), name)?;
+            self.value(&mut text, scope, ty_of)?;
+            all.try_reserve(1)?;
+            all.push((id.to_string(), text.to_string()));
         }
-        self.put(format_args!("{})", if lead == "(" { "(" } else { "" }))?;
-        let is_own = |ty_of| match ty_of {
-            ComponentValType::Type(index) => {
-                let found = ty.scope().resolve(Space::Types, index).map(Definition::meaning);
-                let Ok(Meaning::Item(ItemView::Type(TypeView::Defined(found)))) = found else {
-                    return false;
-                };
-                matches!(found, DefinedView::Own(_))
-            }
-            ComponentValType::Primitive(_) => false,
-        };
-        match result.filter(|result| !(is_constructor && is_own(*result))) {
+        let result = match result {
+            None => None,
             Some(result) => {
-                self.put(format_args!(" -> "))?;
-                self.value(ty.scope(), result)
+                let mut text = Text::default();
+                self.value(&mut text, scope, result)?;
+                Some(text.to_string())
             }
-            None => Ok(()),
-        }
-    }
-
-    /// Appends a name.
-    pub fn id(&mut self, name: &str) -> Written {
-        self.put(format_args!("{}", Id(name)))
-    }
-
-    /// Appends a text.
-    pub fn put(&mut self, text: fmt::Arguments) -> Written {
-        self.text.write_fmt(text).map_err(|_| Unwritten::NoMemory)
+        };
+        Ok(Function { params: all, result, is_async })
     }
 }

@@ -67,7 +67,7 @@ fn linked(wit: &str, component: &[u8]) -> World {
 #[test]
 fn worlds_are_those_of_the_corpus() {
     let refused = fs::read_to_string(corpus("refused.txt")).expect("it is read");
-    let (mut whole, mut items) = (0, 0);
+    let (mut whole, mut items, mut behind) = (0, 0, 0);
     for path in paths() {
         let name = path.file_stem().expect("it has a name").to_string_lossy();
         let bytes = fs::read(&path).expect("it is read");
@@ -76,7 +76,12 @@ fn worlds_are_those_of_the_corpus() {
         let printed = reader::read(&out);
         items += printed.items.len() + printed.imports.len() + printed.exports.len();
         items += printed.interfaces.values().map(BTreeMap::len).sum::<usize>();
-        assert_eq!(printed, linked(&wit, &bytes), "{name}");
+        // behind bytes that may be functions, no function is known
+        let mut expected = linked(&wit, &bytes);
+        let is_behind = err.contains("bytes behind the last item");
+        expected.items.retain(|_, item| !is_behind || item[0] != "export");
+        behind += u32::from(is_behind);
+        assert_eq!(printed, expected, "{name}");
         match refused.lines().find_map(|line| line.strip_prefix(&format!("{name} BadItem "))) {
             None => whole += u32::from((status, &err[..]) == (0, "")),
             Some(place) => {
@@ -84,11 +89,11 @@ fn worlds_are_those_of_the_corpus() {
                 let place: usize = place.parse().expect("a number");
                 let first = err.lines().next().expect("a fault");
                 assert!(first.contains(&format!(" in the section at {place:#x}")), "{err}");
-                assert!(status == 1 && !err.contains("WIT"), "{name}: {err}");
+                assert!(status == 1 && err.contains("WIT") == is_behind, "{name}: {err}");
             }
         }
     }
-    assert_eq!((whole, refused.lines().count()), (40, 6));
+    assert_eq!((whole, behind, refused.lines().count()), (40, 2, 6));
     assert!(items > 400, "{items}");
 }
 

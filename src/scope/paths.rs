@@ -1,0 +1,442 @@
+//! Instances, and what is reached through them.
+//!
+//! What an index of an instantiated component means depends on the instance: an import is what was
+//! passed for it, and a type that the component defines is another one in each instance. So all
+//! that is followed is an [`At`]: an entry with a path of instances, the outermost first. A path is
+//! a number: equal paths have equal numbers.
+//!
+//! What an entry is the same as is found once, when it is read, as if the imports of its component
+//! were unknown (`Entry::last`). Through an instance this is moved to the path of the instance: the
+//! first of its instances, or itself if it has none, may be an import for which there is an
+//! argument, and everything behind that is then looked for by name.
+
+use super::meaning::Same;
+use super::{Definitions, Meaning, NONE, ScopeFault};
+use crate::shim::vec::VecUsing;
+use crate::tree::Space;
+use crate::view::{CoreInstanceView, CoreTypeView, InstanceView, ItemView, TypeView};
+use crate::{ComponentTypeRef, ReadError};
+use alloc::vec::Vec;
+
+/// The maximum number of instances in a path.
+const DEPTH: u32 = 100;
+
+/// The maximum number of steps to what one entry is the same as.
+const STEPS: u32 = 2000;
+
+/// The maximum number of steps that wait for others.
+const TODO: usize = 256;
+
+/// The number of paths that there may be, without and for each entry.
+const PATHS: (usize, usize) = (1 << 12, 8);
+
+/// An entry with the path of instances through which it is reached: `NONE` for an entry as it is
+/// written, in no instance of its component.
+#[derive(Clone, Copy, Debug, PartialEq, Eq, PartialOrd, Ord, Hash)]
+pub(super) struct At {
+    pub path: u32,
+    pub number: u32,
+}
+
+impl At {
+    pub const NONE: Self = Self::written(NONE);
+
+    pub const fn written(number: u32) -> Self {
+        Self { path: NONE, number }
+    }
+}
+
+/// A path of instances.
+#[derive(Clone, Copy)]
+pub(super) struct Path {
+    /// The last of them.
+    pub instance: At,
+    /// The scope with its exports: that of a component or of a type.
+    pub scope: u32,
+    /// The path of that component or type.
+    pub around: u32,
+    /// The first of the instances.
+    head: u32,
+    depth: u32,
+}
+
+/// All paths that were followed.
+#[derive(Default)]
+pub(super) struct Paths {
+    all: Vec<Path>,
+    /// Their numbers, by the hashes of their last instances.
+    table: Vec<u32>,
+}
+
+impl Paths {
+    /// Returns the place of an instance in the table, which isn't full.
+    fn slot(table: &[u32], all: &[Path], instance: At) -> usize {
+        let key = u64::from(instance.path) << 32 | u64::from(instance.number);
+        let hash = key.wrapping_mul(0x9e37_79b9_7f4a_7c15) >> 32;
+        let mut slot = hash as usize & (table.len() - 1);
+        while table[slot] != NONE && all[table[slot] as usize].instance != instance {
+            slot = (slot + 1) & (table.len() - 1);
+        }
+        slot
+    }
+
+    /// Returns the number of the path that ends with this instance.
+    fn find(&self, instance: At) -> Option<u32> {
+        if self.table.is_empty() {
+            return None;
+        }
+        let path = self.table[Self::slot(&self.table, &self.all, instance)];
+        (path != NONE).then_some(path)
+    }
+
+    fn add(&mut self, path: Path) -> Result<u32, ReadError> {
+        if self.table.len() <= 2 * self.all.len() {
+            let (mut table, len) = (Vec::new(), (4 * self.all.len()).next_power_of_two().max(8));
+            table.try_reserve_exact(len).map_err(|_| ReadError::memory())?;
+            table.resize(len, NONE);
+            for (number, path) in (0..).zip(&self.all) {
+                let slot = Self::slot(&table, &self.all, path.instance);
+                table[slot] = number;
+            }
+            self.table = table;
+        }
+        let number = super::build::numbered(self.all.len())?;
+        let slot = Self::slot(&self.table, &self.all, path.instance);
+        self.all.push_using(path).map_err(|_| ReadError::memory())?;
+        self.table[slot] = number;
+        Ok(number)
+    }
+}
+
+/// What is done next with the definition that was found.
+#[derive(Clone, Copy)]
+enum Todo {
+    /// An entry of the instance that it is; if its scope isn't the instance's, its export by the
+    /// name of that entry.
+    Member(u32),
+    /// It is the component or the type of this instance.
+    Open(At),
+}
+
+/// Where the exports of an instance are.
+enum Opened {
+    /// In the scope of its path.
+    Path(u32),
+    /// In this list.
+    List(u32),
+    /// In the scope of the component or the type that this entry is.
+    By(At),
+    /// It has none that are known.
+    Unknown,
+}
+
+impl Definitions<'_> {
+    pub(super) fn path(&self, number: u32) -> Path {
+        self.paths.borrow().all[number as usize]
+    }
+
+    /// Returns the first of the instances of a path, or the entry if it has none.
+    pub(super) fn head(&self, at: At) -> u32 {
+        if at.path == NONE { at.number } else { self.path(at.path).head }
+    }
+
+    /// Returns the path in which an entry is that is written in the scope of this path, or around
+    /// it.
+    pub(super) fn path_of(&self, mut path: u32, number: u32) -> u32 {
+        while path != NONE {
+            let Path { scope, around, .. } = self.path(path);
+            let frame = self.frame(scope);
+            if (frame.start..frame.end).contains(&number) {
+                break;
+            }
+            path = around;
+        }
+        path
+    }
+
+    /// Returns the last of the definitions that this one is the same as. `place` is the byte offset
+    /// of what refers to it.
+    pub(super) fn value(&self, at: At, place: usize) -> Result<At, ScopeFault> {
+        if at.path == NONE {
+            let last = self.last_of(at.number)?;
+            if self.bound(last.number).is_none() {
+                return Ok(last);
+            }
+        }
+        self.run(at, &mut Waiting::default(), place)
+    }
+
+    /// Returns the argument for an import, if it is one of the component that this path's instance
+    /// is of.
+    fn argument(&self, path: u32, number: u32) -> Option<At> {
+        let (Meaning::Item(ItemView::Import { name, .. }), true) =
+            (self.entry(number).meaning, path != NONE)
+        else {
+            return None;
+        };
+        let Path { instance, scope, .. } = self.path(path);
+        let of = self.entry(instance.number);
+        let Meaning::Item(ItemView::Instance(InstanceView::Instantiate { .. })) = of.meaning else {
+            return None;
+        };
+        let space = self.entry(number).space?;
+        let argument = self.named(of.inner, name.name, space)?;
+        (self.entry(number).scope == scope).then_some(At { path: instance.path, number: argument })
+    }
+
+    /// Returns the definition that this one, which is reached through instances, is the same as: the
+    /// next one, not the last.
+    pub(super) fn target_through(&self, at: At) -> Result<Option<At>, ScopeFault> {
+        let &super::Entry { meaning, scope, place, target, .. } = self.entry(at.number);
+        if let Some(argument) = self.argument(at.path, at.number) {
+            return Ok(Some(argument));
+        }
+        match meaning.same() {
+            None => Ok(None),
+            Some(Same::Index(..)) if target.path == NONE && target.number != NONE => {
+                let path = self.path_of(at.path, target.number);
+                Ok(Some(At { path, number: target.number }))
+            }
+            Some(Same::Index(..)) => Ok(None),
+            Some(Same::Export((space, index), name, of)) => {
+                let number = self.find((scope, at.number, place), space, index)?;
+                let instance = self.value(At { path: at.path, number }, place)?;
+                self.export_in(instance, name, of, place)
+            }
+        }
+    }
+
+    /// Returns the type that an import or a declared export is the same as if it isn't replaced. In
+    /// the outermost component this is its `last`.
+    fn bound(&self, number: u32) -> Option<u32> {
+        let &super::Entry { meaning, target, last, .. } = self.entry(number);
+        let is_bound = meaning.is_bound() && last == At::written(number);
+        (is_bound && target != At::NONE).then_some(target.number)
+    }
+
+    /// Returns what an entry is the same as that is stored for it: a type that may be replaced isn't
+    /// followed, since it has a name by which it is found again.
+    pub(super) fn stored(&self, at: At, place: usize) -> Result<At, ScopeFault> {
+        self.follow(at, &mut Waiting::default(), place, false)
+    }
+
+    fn run(&self, at: At, todo: &mut Waiting, place: usize) -> Result<At, ScopeFault> {
+        self.follow(at, todo, place, true)
+    }
+
+    fn follow(
+        &self,
+        mut at: At,
+        todo: &mut Waiting,
+        place: usize,
+        is_whole: bool,
+    ) -> Result<At, ScopeFault> {
+        let mut is_found = false;
+        for _ in 0..STEPS {
+            if !is_found {
+                let last = self.last_of(at.number)?;
+                let head = self.head(last);
+                let path = self.path_of(at.path, head);
+                let mut rest = last;
+                while rest.path != NONE {
+                    todo.push(Todo::Member(rest.number), place)?;
+                    rest = self.path(rest.path).instance;
+                }
+                if let Some(argument) = self.argument(path, head) {
+                    at = argument;
+                    continue;
+                }
+                (at, is_found) = (At { path, number: head }, true);
+            }
+            if let Some(number) = self.bound(at.number).filter(|_| is_whole || todo.len > 0) {
+                (at, is_found) = (At { path: self.path_of(at.path, number), number }, false);
+                continue;
+            }
+            match todo.pop() {
+                None => return Ok(at),
+                Some(Todo::Open(instance)) => match self.open(instance, at, place)? {
+                    Some(by) => {
+                        todo.push(Todo::Open(instance), place)?;
+                        (at, is_found) = (by, false);
+                    }
+                    None => at = instance,
+                },
+                Some(Todo::Member(number)) => match self.opened(at)? {
+                    Opened::Path(path) if self.path(path).scope == self.entry(number).scope => {
+                        at = At { path, number };
+                    }
+                    Opened::Path(_) | Opened::List(_) => {
+                        let &super::Entry { meaning, space, .. } = self.entry(number);
+                        let (Some(name), Some(space)) = (meaning.export(), space) else {
+                            return Err(ScopeFault::TooDeep { place });
+                        };
+                        let found = self.export_in(at, name, space, place)?;
+                        let missing = ScopeFault::NoExport { place, space };
+                        (at, is_found) = (found.ok_or(missing)?, false);
+                    }
+                    Opened::By(by) => {
+                        todo.push(Todo::Member(number), place)?;
+                        todo.push(Todo::Open(at), place)?;
+                        (at, is_found) = (by, false);
+                    }
+                    Opened::Unknown => return Err(ScopeFault::TooDeep { place }),
+                },
+            }
+        }
+        Err(ScopeFault::TooDeep { place })
+    }
+
+    /// Returns where the exports of an instance are, or of a component, which has those of an
+    /// instance of it with unknown arguments.
+    fn opened(&self, at: At) -> Result<Opened, ScopeFault> {
+        if let Some(path) = self.paths.borrow().find(at) {
+            return Ok(Opened::Path(path));
+        }
+        let &super::Entry { meaning, inner, scope, place, .. } = self.entry(at.number);
+        let by = |space, index| {
+            let number = self.find((scope, at.number, place), space, index)?;
+            Ok(Opened::By(At { path: at.path, number }))
+        };
+        match meaning {
+            Meaning::Item(ItemView::Instance(InstanceView::Instantiate { component, .. })) => {
+                by(Space::Components, component)
+            }
+            Meaning::Item(ItemView::CoreInstance(CoreInstanceView::Instantiate {
+                module, ..
+            })) => by(Space::CoreModules, module),
+            Meaning::Item(ItemView::Instance(_) | ItemView::CoreInstance(_)) => {
+                Ok(Opened::List(inner))
+            }
+            Meaning::Item(ItemView::Component(_) | ItemView::Type(_) | ItemView::CoreType(_))
+                if inner != NONE =>
+            {
+                Ok(Opened::By(at))
+            }
+            _ => match (meaning.type_ref(), meaning.type_index()) {
+                (Some(ComponentTypeRef::Func(_)), _) | (None, _) | (_, None) => Ok(Opened::Unknown),
+                (Some(_), Some((space, index))) => by(space, index),
+            },
+        }
+    }
+
+    /// Adds the path of an instance with this component, module or type; if it has a type, returns
+    /// that instead.
+    fn open(&self, instance: At, of: At, place: usize) -> Result<Option<At>, ScopeFault> {
+        let &super::Entry { meaning, inner, scope, place: at, .. } = self.entry(of.number);
+        let wanted = self.entry(instance.number);
+        let declared = wanted.meaning.type_ref();
+        let is_wanted = match (meaning, declared) {
+            (Meaning::Item(ItemView::Component(_)), None) => true,
+            (Meaning::Item(ItemView::Type(TypeView::Component(_))), declared) => !matches!(
+                declared,
+                Some(ComponentTypeRef::Instance(_) | ComponentTypeRef::Module(_))
+            ),
+            (Meaning::Item(ItemView::Type(TypeView::Instance(_))), declared) => {
+                matches!(declared, Some(ComponentTypeRef::Instance(_))) || instance == of
+            }
+            (Meaning::Item(ItemView::CoreType(CoreTypeView::Module(_))), declared) => {
+                matches!(declared, Some(ComponentTypeRef::Module(_)) | None)
+            }
+            (Meaning::Item(ItemView::Module(_)), None) => return Err(ScopeFault::Opaque { place }),
+            (_, None) => {
+                let Some((space, index)) = meaning.type_index() else {
+                    return Err(ScopeFault::Opaque { place });
+                };
+                let number = self.find((scope, of.number, at), space, index)?;
+                return Ok(Some(At { path: of.path, number }));
+            }
+            _ => false,
+        };
+        if !is_wanted {
+            let space = wanted.space.unwrap_or(Space::Instances);
+            return Err(ScopeFault::OtherType { place: wanted.place, space });
+        }
+        let (head, depth) = if instance.path == NONE {
+            (instance.number, 1)
+        } else {
+            let Path { head, depth, .. } = self.path(instance.path);
+            (head, depth + 1)
+        };
+        let mut paths = self.paths.borrow_mut();
+        if depth > DEPTH || paths.all.len() >= PATHS.0 + PATHS.1 * self.entries.len() {
+            return Err(ScopeFault::TooDeep { place });
+        }
+        let path = Path { instance, scope: inner, around: of.path, head, depth };
+        paths.add(path).map_err(|_| ScopeFault::NoMemory { place })?;
+        Ok(None)
+    }
+
+    /// Returns the scope or the list with the exports of an instance or a component, which is the
+    /// last of those that it is the same as, and the path to them. `None` if there are none, or
+    /// none that are known.
+    pub(super) fn exports_of(
+        &self,
+        at: At,
+        place: usize,
+    ) -> Result<Option<(u32, u32)>, ScopeFault> {
+        loop {
+            match self.opened(at)? {
+                Opened::Path(path) => return Ok(Some((self.path(path).scope, path))),
+                Opened::List(list) => return Ok(Some((list, at.path))),
+                Opened::Unknown => return Ok(None),
+                Opened::By(by) => {
+                    let mut todo = Waiting::default();
+                    todo.push(Todo::Open(at), place)?;
+                    match self.run(by, &mut todo, place) {
+                        Err(ScopeFault::Opaque { .. }) => return Ok(None),
+                        run => run?,
+                    };
+                }
+            }
+        }
+    }
+
+    /// Returns an export of an instance, not followed. `None` if its exports aren't known.
+    pub(super) fn export_in(
+        &self,
+        instance: At,
+        name: &str,
+        space: Space,
+        place: usize,
+    ) -> Result<Option<At>, ScopeFault> {
+        let Some((scope, path)) = self.exports_of(instance, place)? else { return Ok(None) };
+        if let Some(number) = self.named(scope, name, space) {
+            return Ok(Some(At { path, number }));
+        }
+        let unread = self.frame(scope).unread;
+        Err(match self.exports_named(scope, name).first() {
+            Some(&(_, number)) => {
+                let found = self.entry(number).space.unwrap_or(space);
+                ScopeFault::OtherExport { place, space, found }
+            }
+            None if unread == usize::MAX => ScopeFault::NoExport { place, space },
+            None => ScopeFault::Unread { place, space, unread },
+        })
+    }
+}
+
+/// Steps that wait for others, the last first.
+struct Waiting {
+    len: usize,
+    all: [Todo; TODO],
+}
+
+impl Default for Waiting {
+    fn default() -> Self {
+        Self { len: 0, all: [Todo::Member(NONE); TODO] }
+    }
+}
+
+impl Waiting {
+    fn push(&mut self, todo: Todo, place: usize) -> Result<(), ScopeFault> {
+        let slot = self.all.get_mut(self.len).ok_or(ScopeFault::TooDeep { place })?;
+        *slot = todo;
+        self.len += 1;
+        Ok(())
+    }
+
+    fn pop(&mut self) -> Option<Todo> {
+        self.len = self.len.checked_sub(1)?;
+        Some(self.all[self.len])
+    }
+}
