@@ -90,6 +90,7 @@ fn main() -> Result<(), String> {
     let file = std::env::args().nth(1).ok_or("interface COMPONENT")?;
     let bytes = std::fs::read(&file).map_err(|error| format!("{file}: {error}"))?;
     let all = Definitions::new(&bytes, LIMITS.0).map_err(|fault| format!("{file}: {fault}"))?;
+    let all = all.instances();
     let mut text = String::new();
     let added = add(&mut text, all.component(), 0).map_err(|fault| format!("{file}: {fault}"));
     print!("{text}");
@@ -105,6 +106,7 @@ fn what_is_imported_and_exported_is_added() {
         \x01\x40\x01\x01a\x02\0\x01\x04\0\x01f\x01\x03\
         \x0a\x06\x01\0\x01i\x05\0\x06\x06\x01\x01\0\0\x01f\x0b\x07\x01\0\x01g\x01\0\0";
     let (all, mut text) = (Definitions::new(component, 0).expect("it is read"), String::new());
+    let all = all.instances();
     assert_eq!(add(&mut text, all.component(), 0), Ok(()));
     let expected = "\
 instance i

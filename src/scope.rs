@@ -19,7 +19,8 @@
 //!     \x07\x0e\x01\x42\x02\x01\x40\0\x01\0\x04\0\x01f\x01\0\
 //!     \x0a\x06\x01\0\x01i\x05\0\x06\x06\x01\x01\0\0\x01f\x0b\x07\x01\0\x01g\x01\0\0";
 //! let definitions = Definitions::new(component, 100)?;
-//! let scope = definitions.component();
+//! let instances = definitions.instances();
+//! let scope = instances.component();
 //!
 //! // function 1, the export, is the same as function 0, the alias
 //! let export = scope.get(Space::Funcs, 1)?;
@@ -82,8 +83,8 @@ pub struct Definitions<'a> {
     names: Vec<(&'a str, u32)>,
     /// The faults of entries that can't be followed, in the order of the entries.
     faults: Vec<(u32, ScopeFault)>,
-    /// The instances that were followed.
-    paths: RefCell<Paths>,
+    /// The instances that were followed while it was read.
+    paths: Paths,
 }
 
 /// A definition.
@@ -156,9 +157,10 @@ impl Frame {
 }
 
 impl<'a> Definitions<'a> {
-    /// Returns the scope of the outermost component.
-    pub fn component(&self) -> Scope<'_, 'a> {
-        Scope { all: self, number: 0, before: NONE, place: 0, path: NONE }
+    /// Returns what looks definitions up. Nothing is allocated before one is reached through an
+    /// instance that no other leads to.
+    pub fn instances(&self) -> Instances<'_, 'a> {
+        Instances { all: self, paths: RefCell::default() }
     }
 
     fn entry(&self, number: u32) -> &Entry<'a> {
@@ -245,13 +247,41 @@ impl fmt::Debug for Definitions<'_> {
     }
 }
 
+/// The definitions of a component, with the instances through which they were reached.
+///
+/// Needs the feature `walk`.
+///
+/// What is written, [`Definitions`], may be shared by threads, each of which has instances of its
+/// own. Each path of instances that is followed takes at most 64 bytes of memory until these are
+/// dropped; there are at most 4096 paths, and 8 for each definition.
+pub struct Instances<'s, 'a> {
+    all: &'s Definitions<'a>,
+    /// The paths that aren't among those of `all`: their numbers follow those.
+    paths: RefCell<Paths>,
+}
+
+impl<'a> Instances<'_, 'a> {
+    /// Returns the scope of the outermost component.
+    pub fn component(&self) -> Scope<'_, 'a> {
+        Scope { all: self, number: 0, before: NONE, place: 0, path: NONE }
+    }
+}
+
+impl fmt::Debug for Instances<'_, '_> {
+    #[inline]
+    fn fmt(&self, f: &mut fmt::Formatter<'_>) -> fmt::Result {
+        let len = self.all.paths.len() + self.paths.borrow().len();
+        f.debug_struct("Instances").field("len", &len).finish_non_exhaustive()
+    }
+}
+
 /// The index spaces of a component, or of a type that has some of its own, as a whole or as far as
 /// they are defined before one of their definitions (component model, explainer, "Index Spaces").
 ///
 /// Needs the feature `walk`.
 #[derive(Clone, Copy)]
 pub struct Scope<'s, 'a> {
-    all: &'s Definitions<'a>,
+    all: &'s Instances<'s, 'a>,
     number: u32,
     /// The number of the first entry that isn't visible.
     before: u32,
@@ -265,13 +295,13 @@ impl<'s, 'a> Scope<'s, 'a> {
     /// Returns the byte offset at which the component begins, or the item or declaration that the
     /// type is.
     pub fn place(self) -> usize {
-        self.all.frame(self.number).place
+        self.all.all.frame(self.number).place
     }
 
     /// Returns the number of indices in a space; [`u64::MAX`] if it depends on items that can't be
     /// read.
     pub fn count(self, space: Space) -> u64 {
-        self.all.count(self.number, self.before, space)
+        self.all.all.count(self.number, self.before, space)
     }
 
     /// Returns the definition of an index.
@@ -281,7 +311,7 @@ impl<'s, 'a> Scope<'s, 'a> {
     /// [`ScopeFault::OutOfRange`] or [`ScopeFault::Unread`], with the byte offset of the definition
     /// before which this scope is seen, or otherwise of the scope.
     pub fn get(self, space: Space, index: u32) -> Result<Definition<'s, 'a>, ScopeFault> {
-        let number = self.all.find((self.number, self.before, self.place), space, index)?;
+        let number = self.all.all.find((self.number, self.before, self.place), space, index)?;
         Ok(self.definition(number))
     }
 
@@ -300,7 +330,7 @@ impl<'s, 'a> Scope<'s, 'a> {
 
     /// Returns the scope around this one, as it is before it; `None` for the outermost component.
     pub fn outer(self) -> Option<Self> {
-        let &Frame { outer, start, place, .. } = self.all.frame(self.number);
+        let &Frame { outer, start, place, .. } = self.all.all.frame(self.number);
         let path = match self.path {
             NONE => NONE,
             path if self.all.path(path).scope == self.number => self.all.path(path).around,
@@ -313,14 +343,15 @@ impl<'s, 'a> Scope<'s, 'a> {
     /// no index.
     pub fn definitions(self) -> impl FusedIterator<Item = Definition<'s, 'a>> {
         let numbered = move |number: u32| (number < self.before).then_some(number);
-        let first = numbered(self.all.frame(self.number).ends.0);
-        let numbers = iter::successors(first, move |number| numbered(self.all.entry(*number).next));
+        let first = numbered(self.all.all.frame(self.number).ends.0);
+        let next = move |number: &u32| numbered(self.all.all.entry(*number).next);
+        let numbers = iter::successors(first, next);
         numbers.map(move |number| self.definition(number))
     }
 
     /// Returns the export with this name, or one of several. A valid component has one.
     pub fn export(self, name: &str) -> Option<Definition<'s, 'a>> {
-        let (_, number) = *self.all.exports_named(self.number, name).first()?;
+        let (_, number) = *self.all.all.exports_named(self.number, name).first()?;
         (number < self.before).then(|| self.definition(number))
     }
 }

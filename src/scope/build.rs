@@ -1,14 +1,15 @@
 //! Reading the definitions of a component.
 
 use super::meaning::Declarations;
-use super::paths::At;
-use super::{Definitions, Entry, Frame, Meaning, NONE, ScopeFault};
+use super::paths::{At, Paths};
+use super::{Definitions, Entry, Frame, Instances, Meaning, NONE, ScopeFault};
 use crate::shim::vec::VecUsing;
 use crate::tree::{IndexCounts, Space};
 use crate::view::{CoreInstanceView, InstanceView, ItemView};
 use crate::{ReadError, Step, Unread, Walk};
 use alloc::collections::BinaryHeap;
 use alloc::vec::Vec;
+use core::cell::RefCell;
 use core::mem;
 
 impl<'a> Definitions<'a> {
@@ -23,7 +24,7 @@ impl<'a> Definitions<'a> {
     pub fn new(bytes: &'a [u8], limit: usize) -> Result<Self, ReadError> {
         let mut reader = Reader::new();
         reader.read(bytes, limit, &mut Err)?;
-        Ok(reader.all)
+        Ok(reader.end())
     }
 
     /// Reads a component as [`new`](Self::new) does, past what a [`Walk`] passes over, and calls a
@@ -48,10 +49,11 @@ impl<'a> Definitions<'a> {
     /// let mut faults = 0;
     /// let definitions = Definitions::past_faults(&component, 100, |_| faults += 1);
     /// assert_eq!(faults, 1);
-    /// let export = definitions.component().export("f").expect("it is read");
+    /// let instances = definitions.instances();
+    /// let export = instances.component().export("f").expect("it is read");
     /// // core function 0 is the last one, so that function 0 is the lifted one
     /// assert_eq!(export.resolve()?.place(), 22);
-    /// let unread = definitions.component().get(Space::CoreFuncs, 0).err();
+    /// let unread = instances.component().get(Space::CoreFuncs, 0).err();
     /// assert!(matches!(unread, Some(ScopeFault::Unread { unread: 11, .. })));
     /// # Ok::<(), ScopeFault>(())
     /// ```
@@ -65,13 +67,15 @@ impl<'a> Definitions<'a> {
             reader.cut(error.offset);
             tell(error);
         }
-        reader.all
+        reader.end()
     }
 }
 
 /// The definitions that were read so far.
 pub(super) struct Reader<'a> {
+    /// Their paths aren't there before its end.
     pub all: Definitions<'a>,
+    paths: Paths,
     /// The scopes around the next definition, the outermost first.
     pub open: Vec<Open<'a>>,
     /// The exports of these, each with the number of its scope: the innermost's are the greatest.
@@ -106,7 +110,11 @@ impl<'a> Reader<'a> {
     fn new() -> Self {
         let (entries, frames, names, faults, paths) = Default::default();
         let all = Definitions { entries, frames, names, faults, paths };
-        Self { all, open: Vec::new(), names: BinaryHeap::new(), types: Vec::new() }
+        Self { all, paths: Paths::default(), open: Vec::new(), names: BinaryHeap::new(), types: Vec::new() }
+    }
+
+    fn end(self) -> Definitions<'a> {
+        Definitions { paths: self.paths, ..self.all }
     }
 
     /// Reads a component, and passes on its faults, unless it is none or there is no memory.
@@ -252,7 +260,9 @@ impl<'a> Reader<'a> {
         let innermost = self.open.len().saturating_sub(if is_list { 2 } else { 1 });
         let around = |out| Some(self.open.get(innermost.checked_sub(out)?)?.scope);
         let (mut target, mut last) = (At::NONE, At::written(number));
-        let found = self.all.target_of(around, &meaning, place);
+        let paths = RefCell::new(mem::take(&mut self.paths));
+        let instances = Instances { all: &self.all, paths };
+        let found = instances.target_of(around, &meaning, place);
         let followed = found.and_then(|found| {
             let Some(to) = found else { return Ok(()) };
             target = to;
@@ -261,10 +271,11 @@ impl<'a> Reader<'a> {
                 // one that can't be followed is its own last, and tells why
                 let is_written = to.path == NONE;
                 let written = || self.all.entry(to.number).last;
-                last = if is_written { written() } else { self.all.stored(to, place)? };
+                last = if is_written { written() } else { instances.stored(to, place)? };
             }
             Ok(())
         });
+        self.paths = instances.paths.into_inner();
         match followed {
             Ok(()) => {}
             Err(ScopeFault::NoMemory { .. }) => return Err(ReadError::memory()),

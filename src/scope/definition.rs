@@ -1,7 +1,7 @@
 //! One definition.
 
 use super::paths::At;
-use super::{Definitions, Entry, Meaning, NONE, Scope, ScopeFault};
+use super::{Entry, Instances, Meaning, NONE, Scope, ScopeFault};
 use crate::tree::Space;
 use crate::view::ItemView;
 use core::cmp::Ordering;
@@ -13,17 +13,17 @@ use core::hash::{Hash, Hasher};
 /// Needs the feature `walk`.
 #[derive(Clone, Copy)]
 pub struct Definition<'s, 'a> {
-    all: &'s Definitions<'a>,
+    all: &'s Instances<'s, 'a>,
     at: At,
 }
 
 impl<'s, 'a> Definition<'s, 'a> {
-    pub(super) fn new(all: &'s Definitions<'a>, at: At) -> Self {
+    pub(super) fn new(all: &'s Instances<'s, 'a>, at: At) -> Self {
         Self { all, at }
     }
 
     fn entry(self) -> &'s Entry<'a> {
-        self.all.entry(self.at.number)
+        self.all.all.entry(self.at.number)
     }
 
     /// Returns the item, the declaration or the member of a list that it is.
@@ -109,7 +109,7 @@ impl<'s, 'a> Definition<'s, 'a> {
     /// Why there is no such definition.
     pub fn target(self) -> Result<Option<Self>, ScopeFault> {
         let entry = self.entry();
-        if let Some(fault) = self.all.fault_of(self.at.number) {
+        if let Some(fault) = self.all.all.fault_of(self.at.number) {
             return Err(fault);
         }
         let of = |at| Some(Self { at, ..self });
@@ -170,7 +170,7 @@ impl fmt::Debug for Definition<'_, '_> {
     }
 }
 
-/// What an order and a hash are of: which component, which instances, and which definition.
+/// What an order and a hash are of: which `Instances`, which of them, and which definition.
 type Key = (*const (), At);
 
 impl Definition<'_, '_> {
@@ -180,8 +180,8 @@ impl Definition<'_, '_> {
 }
 
 impl PartialEq for Definition<'_, '_> {
-    /// Whether both are the same definition of the same component, reached through the same
-    /// instances: two [resolved](Self::resolve) resources are the same exactly if this holds.
+    /// Whether both are the same definition of the same [`Instances`], reached through the same
+    /// ones: two [resolved](Self::resolve) resources are the same exactly if this holds.
     fn eq(&self, other: &Self) -> bool {
         self.key() == other.key()
     }

@@ -2,7 +2,7 @@
 
 use super::meaning::Same;
 use super::paths::At;
-use super::{Definitions, Meaning, ScopeFault};
+use super::{Definitions, Instances, Meaning, ScopeFault};
 use crate::tree::Space;
 
 impl Definitions<'_> {
@@ -41,7 +41,9 @@ impl Definitions<'_> {
         let (other, number) = *self.exports_from(scope, name, Some(space)).first()?;
         (other == name && self.entry(number).space == Some(space)).then_some(number)
     }
+}
 
+impl Instances<'_, '_> {
     /// Returns the definition that this one at this byte offset is the same as, given the scopes
     /// around it by their distance. `None` if there is none.
     #[inline(always)]
@@ -54,7 +56,7 @@ impl Definitions<'_> {
         let found = |out, space, index| {
             let missing = ScopeFault::OutOfRange { place, space, index, count: 0 };
             let scope = usize::try_from(out).ok().and_then(&around).ok_or(missing)?;
-            self.find((scope, super::NONE, place), space, index)
+            self.all.find((scope, super::NONE, place), space, index)
         };
         match meaning.same() {
             None => Ok(None),
@@ -62,7 +64,7 @@ impl Definitions<'_> {
                 found(out, space, index).map(At::written).map(Some)
             }
             Some(Same::Export((space, index), name, of)) => {
-                let instance = self.last_of(found(0, space, index)?)?;
+                let instance = self.all.last_of(found(0, space, index)?)?;
                 self.export_in(instance, name, of, place)
             }
         }

@@ -11,7 +11,7 @@
 //! argument, and everything behind that is then looked for by name.
 
 use super::meaning::Same;
-use super::{Definitions, Meaning, NONE, ScopeFault};
+use super::{Instances, Meaning, NONE, ScopeFault};
 use crate::shim::vec::VecUsing;
 use crate::tree::Space;
 use crate::view::{CoreInstanceView, CoreTypeView, InstanceView, ItemView, TypeView};
@@ -69,6 +69,10 @@ pub(super) struct Paths {
 }
 
 impl Paths {
+    pub fn len(&self) -> usize {
+        self.all.len()
+    }
+
     /// Returns the place of an instance in the table, which isn't full.
     fn slot(table: &[u32], all: &[Path], instance: At) -> usize {
         let key = u64::from(instance.path) << 32 | u64::from(instance.number);
@@ -130,9 +134,20 @@ enum Opened {
     Unknown,
 }
 
-impl Definitions<'_> {
+impl Instances<'_, '_> {
     pub(super) fn path(&self, number: u32) -> Path {
-        self.paths.borrow().all[number as usize]
+        let (number, written) = (number as usize, &self.all.paths.all);
+        match written.get(number) {
+            Some(path) => *path,
+            None => self.paths.borrow().all[number - written.len()],
+        }
+    }
+
+    /// Returns the number of the path that ends with this instance, if there is one.
+    fn known(&self, instance: At) -> Option<u32> {
+        let written = &self.all.paths;
+        let own = || Some(self.paths.borrow().find(instance)? + written.all.len() as u32);
+        written.find(instance).or_else(own)
     }
 
     /// Returns the first of the instances of a path, or the entry if it has none.
@@ -145,7 +160,7 @@ impl Definitions<'_> {
     pub(super) fn path_of(&self, mut path: u32, number: u32) -> u32 {
         while path != NONE {
             let Path { scope, around, .. } = self.path(path);
-            let frame = self.frame(scope);
+            let frame = self.all.frame(scope);
             if (frame.start..frame.end).contains(&number) {
                 break;
             }
@@ -158,7 +173,7 @@ impl Definitions<'_> {
     /// of what refers to it.
     pub(super) fn value(&self, at: At, place: usize) -> Result<At, ScopeFault> {
         if at.path == NONE {
-            let last = self.last_of(at.number)?;
+            let last = self.all.last_of(at.number)?;
             if self.bound(last.number).is_none() {
                 return Ok(last);
             }
@@ -170,24 +185,24 @@ impl Definitions<'_> {
     /// is of.
     fn argument(&self, path: u32, number: u32) -> Option<At> {
         let (Meaning::Item(ItemView::Import { name, .. }), true) =
-            (self.entry(number).meaning, path != NONE)
+            (self.all.entry(number).meaning, path != NONE)
         else {
             return None;
         };
         let Path { instance, scope, .. } = self.path(path);
-        let of = self.entry(instance.number);
+        let of = self.all.entry(instance.number);
         let Meaning::Item(ItemView::Instance(InstanceView::Instantiate { .. })) = of.meaning else {
             return None;
         };
-        let space = self.entry(number).space?;
-        let argument = self.named(of.inner, name.name, space)?;
-        (self.entry(number).scope == scope).then_some(At { path: instance.path, number: argument })
+        let space = self.all.entry(number).space?;
+        let argument = self.all.named(of.inner, name.name, space)?;
+        (self.all.entry(number).scope == scope).then_some(At { path: instance.path, number: argument })
     }
 
     /// Returns the definition that this one, which is reached through instances, is the same as: the
     /// next one, not the last.
     pub(super) fn target_through(&self, at: At) -> Result<Option<At>, ScopeFault> {
-        let &super::Entry { meaning, scope, place, target, .. } = self.entry(at.number);
+        let &super::Entry { meaning, scope, place, target, .. } = self.all.entry(at.number);
         if let Some(argument) = self.argument(at.path, at.number) {
             return Ok(Some(argument));
         }
@@ -199,7 +214,7 @@ impl Definitions<'_> {
             }
             Some(Same::Index(..)) => Ok(None),
             Some(Same::Export((space, index), name, of)) => {
-                let number = self.find((scope, at.number, place), space, index)?;
+                let number = self.all.find((scope, at.number, place), space, index)?;
                 let instance = self.value(At { path: at.path, number }, place)?;
                 self.export_in(instance, name, of, place)
             }
@@ -209,7 +224,7 @@ impl Definitions<'_> {
     /// Returns the type that an import or a declared export is the same as if it isn't replaced. In
     /// the outermost component this is its `last`.
     fn bound(&self, number: u32) -> Option<u32> {
-        let &super::Entry { meaning, target, last, .. } = self.entry(number);
+        let &super::Entry { meaning, target, last, .. } = self.all.entry(number);
         let is_bound = meaning.is_bound() && last == At::written(number);
         (is_bound && target != At::NONE).then_some(target.number)
     }
@@ -234,7 +249,7 @@ impl Definitions<'_> {
         let mut is_found = false;
         for _ in 0..STEPS {
             if !is_found {
-                let last = self.last_of(at.number)?;
+                let last = self.all.last_of(at.number)?;
                 let head = self.head(last);
                 let path = self.path_of(at.path, head);
                 let mut rest = last;
@@ -262,11 +277,11 @@ impl Definitions<'_> {
                     None => at = instance,
                 },
                 Some(Todo::Member(number)) => match self.opened(at)? {
-                    Opened::Path(path) if self.path(path).scope == self.entry(number).scope => {
+                    Opened::Path(path) if self.path(path).scope == self.all.entry(number).scope => {
                         at = At { path, number };
                     }
                     Opened::Path(_) | Opened::List(_) => {
-                        let &super::Entry { meaning, space, .. } = self.entry(number);
+                        let &super::Entry { meaning, space, .. } = self.all.entry(number);
                         let (Some(name), Some(space)) = (meaning.export(), space) else {
                             return Err(ScopeFault::TooDeep { place });
                         };
@@ -289,12 +304,12 @@ impl Definitions<'_> {
     /// Returns where the exports of an instance are, or of a component, which has those of an
     /// instance of it with unknown arguments.
     fn opened(&self, at: At) -> Result<Opened, ScopeFault> {
-        if let Some(path) = self.paths.borrow().find(at) {
+        if let Some(path) = self.known(at) {
             return Ok(Opened::Path(path));
         }
-        let &super::Entry { meaning, inner, scope, place, .. } = self.entry(at.number);
+        let &super::Entry { meaning, inner, scope, place, .. } = self.all.entry(at.number);
         let by = |space, index| {
-            let number = self.find((scope, at.number, place), space, index)?;
+            let number = self.all.find((scope, at.number, place), space, index)?;
             Ok(Opened::By(At { path: at.path, number }))
         };
         match meaning {
@@ -322,8 +337,8 @@ impl Definitions<'_> {
     /// Adds the path of an instance with this component, module or type; if it has a type, returns
     /// that instead.
     fn open(&self, instance: At, of: At, place: usize) -> Result<Option<At>, ScopeFault> {
-        let &super::Entry { meaning, inner, scope, place: at, .. } = self.entry(of.number);
-        let wanted = self.entry(instance.number);
+        let &super::Entry { meaning, inner, scope, place: at, .. } = self.all.entry(of.number);
+        let wanted = self.all.entry(instance.number);
         let declared = wanted.meaning.type_ref();
         let is_wanted = match (meaning, declared) {
             (Meaning::Item(ItemView::Component(_)), None) => true,
@@ -342,7 +357,7 @@ impl Definitions<'_> {
                 let Some((space, index)) = meaning.type_index() else {
                     return Err(ScopeFault::Opaque { place });
                 };
-                let number = self.find((scope, of.number, at), space, index)?;
+                let number = self.all.find((scope, of.number, at), space, index)?;
                 return Ok(Some(At { path: of.path, number }));
             }
             _ => false,
@@ -358,7 +373,8 @@ impl Definitions<'_> {
             (head, depth + 1)
         };
         let mut paths = self.paths.borrow_mut();
-        if depth > DEPTH || paths.all.len() >= PATHS.0 + PATHS.1 * self.entries.len() {
+        let len = self.all.paths.all.len() + paths.all.len();
+        if depth > DEPTH || len >= PATHS.0 + PATHS.1 * self.all.entries.len() {
             return Err(ScopeFault::TooDeep { place });
         }
         let path = Path { instance, scope: inner, around: of.path, head, depth };
@@ -400,13 +416,13 @@ impl Definitions<'_> {
         place: usize,
     ) -> Result<Option<At>, ScopeFault> {
         let Some((scope, path)) = self.exports_of(instance, place)? else { return Ok(None) };
-        if let Some(number) = self.named(scope, name, space) {
+        if let Some(number) = self.all.named(scope, name, space) {
             return Ok(Some(At { path, number }));
         }
-        let unread = self.frame(scope).unread;
-        Err(match self.exports_named(scope, name).first() {
+        let unread = self.all.frame(scope).unread;
+        Err(match self.all.exports_named(scope, name).first() {
             Some(&(_, number)) => {
-                let found = self.entry(number).space.unwrap_or(space);
+                let found = self.all.entry(number).space.unwrap_or(space);
                 ScopeFault::OtherExport { place, space, found }
             }
             None if unread == usize::MAX => ScopeFault::NoExport { place, space },

@@ -111,6 +111,7 @@ fn defined(component: &[u8], count: usize) -> Definitions<'_> {
 fn each_of_many_indices_has_its_definition() {
     let component = imports(500_000);
     let definitions = defined(&component, 500_000);
+    let definitions = definitions.instances();
     let scope = definitions.component();
     let ((), requested) = requested(|| {
         for _ in 0..10 {
@@ -132,6 +133,7 @@ fn exports_of_exports_are_followed() {
     let front = [&[0x0b][..], &number(4 + exports.len()), &number(1_000_000)].concat();
     let component = [&imports(1), &front[..], &exports].concat();
     let definitions = defined(&component, 1_000_001);
+    let definitions = definitions.instances();
     let scope = definitions.component();
     for index in 0..=1_000_000 {
         assert_eq!(scope.resolve(Space::Funcs, index).map(|found| found.place()), Ok(17));
@@ -152,6 +154,7 @@ fn many_sections_that_are_not_read() {
     let mut faults = 0;
     let (definitions, requested) =
         requested(|| Definitions::past_faults(&component, 0, |_| faults += 1));
+    let definitions = definitions.instances();
     assert!(requested <= 4 * (296 + 320) * 3 * COUNT, "{requested}");
     let scope = definitions.component();
     assert_eq!((faults, scope.count(Space::CoreFuncs)), (COUNT, COUNT as u64));
@@ -179,6 +182,7 @@ fn many_exports_of_one_instance_are_found() {
     let sections = [types, import, section(6, COUNT, &aliases)].concat();
     let component = [&Component::HEADER[..], &sections].concat();
     let definitions = defined(&component, 2 * COUNT + 2);
+    let definitions = definitions.instances();
     for (index, at) in (1..).zip((0..COUNT).rev()) {
         let found = definitions.component().resolve(Space::Types, index).expect("it is there");
         assert_eq!(found.place(), 22 + 11 * at);
@@ -195,6 +199,7 @@ fn outer_aliases_are_followed_in_deep_components() {
     let ty = [0x07, 0x02, 0x01, 0x79];
     let component = [&component[..8], &ty, &component[8..]].concat();
     let definitions = defined(&component, DEPTH + 3);
+    let definitions = definitions.instances();
     let mut scope = definitions.component();
     for _ in 0..DEPTH {
         scope = scope.get(Space::Components, 0).expect("it is there").inner().expect("a scope");

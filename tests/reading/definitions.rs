@@ -2,13 +2,14 @@
 //! can't be followed.
 
 use crate::{component, nested, section};
-use wenc::scope::{Definition, Definitions, Meaning, Scope, ScopeFault};
+use wenc::scope::{Definition, Definitions, Instances, Meaning, Scope, ScopeFault};
 use wenc::tree::Space;
 use wenc::view::{InstanceView, ItemView, ModuleDeclView, TypeView};
 use wenc::{Cause, ComponentTypeRef, Part};
 
-fn read(component: Vec<u8>) -> Definitions<'static> {
-    Definitions::new(component.leak(), 100).expect("it is read")
+fn read(component: Vec<u8>) -> Instances<'static, 'static> {
+    let definitions = Definitions::new(component.leak(), 100).expect("it is read");
+    Box::leak(Box::new(definitions)).instances()
 }
 
 /// The byte offset of what an index is in the end.
@@ -341,11 +342,11 @@ fn cases() -> Vec<(Vec<u8>, ScopeFault, String)> {
 }
 
 /// Reads a component past its faults. Returns the number of these.
-fn past_faults(component: Vec<u8>) -> (Definitions<'static>, usize) {
+fn past_faults(component: Vec<u8>) -> (Instances<'static, 'static>, usize) {
     let (mut faults, component) = (Vec::new(), component.leak());
     let definitions = Definitions::past_faults(component, 100, |fault| faults.push(fault));
     assert_eq!(faults.first().copied(), Definitions::new(component, 100).err());
-    (definitions, faults.len())
+    (Box::leak(Box::new(definitions)).instances(), faults.len())
 }
 
 /// What comes before and after items that can't be read, also in a nested component and a type.
@@ -594,7 +595,7 @@ fn what_has_no_end() {
 }
 
 /// The export of component 0, as it is written.
-fn inner_export<'s>(all: &'s Definitions<'static>) -> Definition<'s, 'static> {
+fn inner_export<'s>(all: &'s Instances<'s, 'static>) -> Definition<'s, 'static> {
     inner(all.component(), Space::Components, 0).export("y").expect("it is there")
 }
 

@@ -21,6 +21,7 @@ fn types() -> Vec<u8> {
 /// The byte offset of the item that has this index of a core type.
 fn at(component: &[u8], index: u32) -> Option<usize> {
     let definitions = Definitions::new(component, 0).expect("it is read");
+    let definitions = definitions.instances();
     definitions.component().get(TYPES, index).ok().map(|found| found.place())
 }
 
@@ -32,6 +33,7 @@ fn each_type_has_its_definition() {
     let listing = list(&bytes).expect("it is listed");
     assert_eq!((listing.sections[0].items.len(), listing.counts[TYPES.number()]), (2, 2));
     let definitions = Definitions::new(&bytes, 0).expect("it is read");
+    let definitions = definitions.instances();
     let group = definitions.component().get(TYPES, 2).expect("it is in the group");
     assert_eq!(
         (group.index(), group.count(), definitions.component().count(TYPES)),
@@ -67,6 +69,7 @@ fn an_empty_group() {
     let bytes = component(&section(3, b"\x02\x4e\0\x5f\0"));
     assert_eq!([0, 1].map(|index| at(&bytes, index)), [Some(13), None]);
     let definitions = Definitions::new(&bytes, 0).expect("it is read");
+    let definitions = definitions.instances();
     let group = definitions.component().definitions().next().expect("the group");
     assert_eq!((group.space(), group.index(), group.count()), (Some(TYPES), None, 0));
 }

@@ -13,6 +13,7 @@ fn listed(sections: &[u8]) -> Listing {
 fn item_of(sections: &[u8], space: Space, index: u32) -> Option<usize> {
     let component = component(sections);
     let definitions = Definitions::new(&component, 0).expect("it is read");
+    let definitions = definitions.instances();
     let found = definitions.component().get(space, index).ok()?;
     definitions.component().definitions().position(|of| of == found)
 }
@@ -38,6 +39,7 @@ fn each_index_has_its_definition() {
     assert_eq!([0, u32::MAX].map(|index| item_of(&many, Space::Values, index)), [Some(0), Some(1)]);
     let component = component(&many);
     let definitions = Definitions::new(&component, 0).expect("it is read");
+    let definitions = definitions.instances();
     assert_eq!(definitions.component().count(Space::Values), 3 * u64::from(u32::MAX));
     assert_eq!(definitions.component().definitions().last().expect("the third").index(), None);
 }

@@ -63,6 +63,7 @@ fn are_counted(bytes: &[u8], listing: &Listing) {
 /// Each item defines the indices from the count of those before it on.
 fn are_defined(bytes: &[u8], listing: &Listing) {
     let definitions = Definitions::new(bytes, 100).expect("it is read");
+    let definitions = definitions.instances();
     let mut next = [0u32; 13];
     for (item, of) in items_of(listing).zip(definitions.component().definitions()) {
         let Meaning::Item(view) = of.meaning() else { panic!("{item:?}") };

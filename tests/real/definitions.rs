@@ -81,6 +81,7 @@ fn is_instance(of: Definition<'_, '_>) -> bool {
 /// Compares the definitions of a component with the indices that are out of range.
 fn seen(name: &str, component: &[u8]) -> Seen {
     let definitions = Definitions::new(component, 100).expect(name);
+    let definitions = definitions.instances();
     let mut seen = Seen::default();
     seen.add_all(definitions.component());
     let found = found(component).into_iter().map(|of| (of.space, of.index, of.count));
@@ -133,6 +134,7 @@ fn builtins_that_moved() {
     ] {
         let bytes = corpus::read(&format!("wasm/{name}.wasm"));
         let definitions = Definitions::past_faults(&bytes, 100, |_| {});
+        let definitions = definitions.instances();
         let (scope, mut named) = (definitions.component(), 0);
         for (space, index, of) in DebugNames::of(&bytes).iter() {
             let found = scope.get(space, index);

@@ -108,6 +108,7 @@ impl Seen {
         }
         self.read(sections);
         let definitions = scope::Definitions::past_faults(component, 9, |_| {});
+        let definitions = definitions.instances();
         self.hinted(definitions.component().definitions());
     }
 }

@@ -153,7 +153,7 @@ fn wit(
         is_component &= (error.part, error.offset) != (Part::Header, 0);
         on_fault(&error.into());
     });
-    let (text, unwritten) = Wit::of(&definitions, bytes.len());
+    let (text, unwritten) = Wit::of(&definitions.instances(), bytes.len());
     if is_component {
         print(out, &text)?;
     }

@@ -12,7 +12,7 @@ use std::collections::{BTreeMap, BTreeSet, TryReserveError};
 use std::fmt::{self, Display, Write};
 use std::mem;
 use types::{Function, Text};
-use wenc::scope::{Definition, Definitions, Meaning, Scope, ScopeFault};
+use wenc::scope::{Definition, Instances, Meaning, Scope, ScopeFault};
 use wenc::tree::Space;
 use wenc::view::{DefinedView, ItemView, NameView, TypeView};
 use wenc::{ComponentTypeRef, TypeBounds};
@@ -150,8 +150,8 @@ fn is_resource(of: Definition<'_, '_>) -> bool {
 
 impl<'s, 'a> Wit<'s, 'a> {
     /// Writes the world of a component of this many bytes.
-    pub fn of(definitions: &'s Definitions<'a>, len: usize) -> (String, Vec<Unwritten>) {
-        let root = definitions.component();
+    pub fn of(instances: &'s Instances<'s, 'a>, len: usize) -> (String, Vec<Unwritten>) {
+        let root = instances.component();
         let (interfaces, owners, local, text, unwritten) = Default::default();
         let left = SIZE.0.saturating_add(SIZE.1.saturating_mul(len));
         let mut wit = Self { root, interfaces, owners, local, text, depth: 0, left, unwritten };
