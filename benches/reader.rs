@@ -3,7 +3,7 @@
 //!
 //!     cargo bench --offline --bench reader -- N HOW [grouped]
 //!
-//! HOW is `list`; `walk`, where items are borrowed; `steps`, where indices are counted, too; `members`, where each member of their lists is
+//! HOW is `list`; `walk`, where items are borrowed; `steps`, with nested components; `counted`, where indices are counted, too; `members`, where each member of their lists is
 //! asked for, too; or `trees`, where items are owned.
 //!
 //! `count` counts the instructions that `work` takes.
@@ -23,7 +23,8 @@ fn work(component: &[u8], how: &str) -> Result<usize, ReadError> {
     match how {
         "list" => Ok(black_box(list(component)?).sections.iter().map(|one| one.items.len()).sum()),
         "walk" => walk(component),
-        "steps" => steps(component),
+        "steps" => steps(Walk::new(component, 100)?),
+        "counted" => steps(Walk::new(component, 100)?.counted()?),
         "check" => Ok(Walk::new(component, 100)?.out_of_range().count()),
         "members" => members(component),
         "trees" => trees(component),
@@ -42,9 +43,9 @@ fn walk(component: &[u8]) -> Result<usize, ReadError> {
     Ok(count)
 }
 
-fn steps(component: &[u8]) -> Result<usize, ReadError> {
+fn steps<'a>(walk: impl Iterator<Item = Step<'a>>) -> Result<usize, ReadError> {
     let mut count = 0;
-    for step in Walk::new(component, 100)? {
+    for step in walk {
         if let Step::Item(item) = step {
             black_box(item);
             count += 1;

@@ -1,5 +1,6 @@
 //! Reading a component section by section, and a section item by item.
 
+mod counted;
 mod items;
 mod out_of_range;
 mod walk;
@@ -11,6 +12,7 @@ use core::fmt;
 use core::iter::{self, FusedIterator};
 use core::ops::Range;
 
+pub use counted::CountedWalk;
 pub use items::{Item, Items};
 pub use out_of_range::OutOfRange;
 pub use walk::{Step, Unread, Walk};

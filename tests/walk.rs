@@ -62,7 +62,7 @@ fn sections_are_copied() -> Result<(), ReadError> {
 #[test]
 fn indices_are_found() -> Result<(), ReadError> {
     let sections = Sections::new(COMPONENT)?;
-    let mut walk = Walk::new(COMPONENT, 0)?;
+    let mut walk = Walk::new(COMPONENT, 0)?.counted()?;
     assert_eq!(walk.by_ref().count(), 6);
     assert_eq!([Space::Types, Space::Funcs].map(|space| walk.counts().of(space)), [1, 1]);
     let (space, scope) = (Space::Types, Scope::Component(0));

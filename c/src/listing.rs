@@ -43,7 +43,7 @@ impl Listed {
     fn read(bytes: &[u8]) -> Result<Self, ReadError> {
         let (sections, items, counts) = (Vec::new(), Vec::new(), IndexCounts::default());
         let mut listed = Self { bytes: Vec::new(), sections, items, counts };
-        let mut walk = Walk::new(bytes, 1)?;
+        let mut walk = Walk::new(bytes, 1)?.counted()?;
         while let Some(step) = walk.next() {
             match step {
                 Step::Section(section) => {

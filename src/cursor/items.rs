@@ -1,5 +1,6 @@
 //! Reading a section item by item.
 
+use super::{Step, Unread};
 use crate::proved::wenc_list as proved;
 use crate::proved::wenc_read::NestedRefusal;
 use crate::view::ItemView;
@@ -77,20 +78,26 @@ impl<'a> Items<'a> {
         Some(Self::new(bytes, proved::SectionItems { id, place, ends, left: count, rest }))
     }
 
-    /// Does what `next` does, which is compiled into its callers, out of line.
-    #[inline(never)]
-    pub(crate) fn next_apart(&mut self) -> Option<<Self as Iterator>::Item> {
-        self.next()
+    /// Returns the next item as a step of a walk, or what is left if that isn't one.
+    #[inline(always)]
+    pub(super) fn step(&mut self) -> Option<Step<'a>> {
+        let left = self.left.as_mut()?;
+        let place = left.reached();
+        match left.next_or_refusal() {
+            Ok(Some(view)) => Some(Step::Item(Item { range: place..left.reached(), view })),
+            Ok(None) => None,
+            Err(refusal) => {
+                let left = *left;
+                let (range, count) = (left.reached()..left.ends, left.left);
+                let error = self.refused(left, refusal);
+                Some(Step::Unread(Unread { error, range, count }))
+            }
+        }
     }
 
     /// Returns the byte offsets and the number of the items that are left; `None` after an error.
     pub fn left(&self) -> Option<(Range<usize>, u32)> {
         self.left.map(|left| (left.reached()..left.ends, left.left))
-    }
-
-    /// Returns the byte offset of the section.
-    pub(super) fn section(&self) -> usize {
-        self.left.map_or(0, |left| left.place)
     }
 
     /// Returns the fault, after which there are no items.

@@ -54,18 +54,23 @@ impl<'a> Walk<'a> {
     /// assert_eq!(found?, [OutOfRange { place: 18, space, scope, index: 99, count: 1 }]);
     /// # Ok::<(), ReadError>(())
     /// ```
-    pub fn out_of_range(mut self) -> impl FusedIterator<Item = Result<OutOfRange, ReadError>> + 'a {
+    pub fn out_of_range(self) -> impl FusedIterator<Item = Result<OutOfRange, ReadError>> + 'a {
         // those of the last item, the first of them last
         let mut found: Vec<OutOfRange> = Vec::new();
+        let mut walk = self.counted().map_err(Some);
         iter::from_fn(move || {
             loop {
                 if let Some(found) = found.pop() {
                     return Some(Ok(found));
                 }
-                let read = match self.next()? {
+                let walk = match &mut walk {
+                    Ok(walk) => walk,
+                    Err(error) => return error.take().map(Err),
+                };
+                let read = match walk.next()? {
                     Step::Item(item) => {
                         let place = item.range.start;
-                        item.view.node_in(&self.scopes()).try_each_index(|used| {
+                        item.view.node_in(&walk.scopes()).try_each_index(|used| {
                             let UsedIndex { space, scope, index, count } = used;
                             let Some(count) = count else { return Ok(()) };
                             let one = OutOfRange { place, space, scope, index, count };
@@ -77,7 +82,7 @@ impl<'a> Walk<'a> {
                 };
                 if let Err(error) = read {
                     found.clear();
-                    return Some(Err(self.end(error)));
+                    return Some(Err(walk.end(error)));
                 }
                 found.reverse();
             }

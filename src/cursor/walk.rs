@@ -2,11 +2,13 @@
 
 use super::{Item, Items, SectionReader, Sections};
 use crate::proved::wenc_list as proved;
-use crate::read_error::{Format, Part, ReadError};
-use crate::tree::{IndexCounts, Scopes, Space};
+use crate::read_error::{Format, ReadError};
 use crate::view::ItemView;
+use crate::ComponentSectionId;
+use alloc::collections::TryReserveError;
 use alloc::vec::Vec;
 use core::iter::FusedIterator;
+use core::mem;
 use core::ops::Range;
 
 /// A walk through a component and all components that are nested in it. It passes over what can't
@@ -14,8 +16,9 @@ use core::ops::Range;
 ///
 /// Needs the feature `walk`.
 ///
-/// All byte offsets are counted from the start of the outermost component. A walk takes 120 bytes
-/// of memory for each component around the next step.
+/// All byte offsets are counted from the start of the outermost component. Nothing is allocated up
+/// to depth 8, and from there on two numbers for each further depth. Indices are counted by the walk
+/// that [`counted`](Self::counted) returns.
 ///
 /// ```
 /// use wenc::{ReadError, Step, Walk};
@@ -42,34 +45,29 @@ use core::ops::Range;
 pub struct Walk<'a> {
     bytes: &'a [u8],
     limit: usize,
-    /// The open components, the outermost first.
-    open: Vec<Open>,
-    /// What they define so far.
-    counts: Vec<IndexCounts>,
+    innermost: Open,
+    around: Around,
     /// The items that are left of the section before.
     items: Option<Items<'a>>,
-    /// What the step that was returned last does to the open components.
-    last: Last,
-    /// Why the component that it opens isn't read.
-    refused: Option<ReadError>,
+    last: Last<'a>,
 }
 
 /// A component whose sections are read.
-#[derive(Clone, Copy, Debug)]
+#[derive(Clone, Copy, Debug, Default)]
 struct Open {
     /// The byte offset of its next section.
     next: usize,
     end: usize,
 }
 
-/// What the step that was returned last does.
-#[derive(Clone, Copy, Debug)]
-enum Last {
+/// What is done before the next section is read.
+#[derive(Clone, Debug)]
+enum Last<'a> {
     Nothing,
-    /// It defines indices.
-    Define(Option<(Space, u32)>),
-    /// It opens a component.
-    Enter(Open),
+    /// The component is entered that this section has.
+    Section(SectionReader<'a>),
+    /// It is opened, or passed over for an error.
+    Enter(Open, Option<ReadError>),
 }
 
 /// A step of a [`Walk`].
@@ -112,33 +110,17 @@ impl<'a> Walk<'a> {
     ///
     /// # Errors
     ///
-    /// [`Part::Header`] if the bytes don't begin with a component's header;
-    /// [`NoMemory`](crate::Cause::NoMemory).
+    /// [`Part::Header`](crate::Part::Header) if the bytes don't begin with a component's header.
     pub fn new(bytes: &'a [u8], limit: usize) -> Result<Self, ReadError> {
         let next = Sections::new(bytes)?.offset().unwrap_or(bytes.len());
-        let last = Last::Enter(Open { next, end: bytes.len() });
-        let (open, counts) = (Vec::new(), Vec::new());
-        let mut walk = Self { bytes, limit, open, counts, items: None, last, refused: None };
-        walk.reserve()?;
-        walk.settle();
-        Ok(walk)
+        let innermost = Open { next, end: bytes.len() };
+        let around = Around { len: 0, few: [Open::default(); FEW], more: Vec::new() };
+        Ok(Self { bytes, limit, innermost, around, items: None, last: Last::Nothing })
     }
 
     /// Returns the number of components around the innermost one.
     pub fn depth(&self) -> usize {
-        self.open.len().saturating_sub(1)
-    }
-
-    /// Returns how many indices the innermost component defines before the last step.
-    pub fn counts(&self) -> &IndexCounts {
-        static NONE: IndexCounts = IndexCounts::NONE;
-        self.counts.last().unwrap_or(&NONE)
-    }
-
-    /// Returns the index spaces of the open components, as they are before the last step: those of
-    /// the item that it is, in which [`ItemView::node_in`] finds what is out of range.
-    pub fn scopes(&self) -> Scopes<'_> {
-        Scopes::new(&self.counts)
+        self.around.len
     }
 
     /// Goes on at this byte offset, or at the end of the innermost component if that is before it,
@@ -146,13 +128,11 @@ impl<'a> Walk<'a> {
     /// that it enters is the innermost one: it is left out with [`usize::MAX`].
     pub fn go_to(&mut self, offset: usize) {
         let open = match &mut self.last {
-            Last::Enter(_) if self.refused.is_some() => None,
-            Last::Enter(open) => Some(open),
-            _ => self.open.last_mut(),
+            Last::Enter(_, Some(_)) => return,
+            Last::Enter(open, None) => open,
+            _ => &mut self.innermost,
         };
-        if let Some(open) = open {
-            open.next = offset.min(open.end);
-        }
+        open.next = offset.min(open.end);
     }
 
     /// Returns the items that aren't components, up to the first error.
@@ -171,90 +151,84 @@ impl<'a> Walk<'a> {
 
     /// Ends the walk. Returns the error.
     pub(super) fn end(&mut self, error: ReadError) -> ReadError {
-        self.open.clear();
+        (self.innermost, self.around.len) = (Open::default(), 0);
         (self.items, self.last) = (None, Last::Nothing);
         error
     }
 
-    /// Reserves memory for one more open component.
-    fn reserve(&mut self) -> Result<(), ReadError> {
-        let reserved = self.open.try_reserve(1).and_then(|()| self.counts.try_reserve(1));
-        reserved.map_err(|_| ReadError::memory())
-    }
-
-    /// Does what the last step does. Returns what isn't read.
-    #[inline]
-    fn settle(&mut self) -> Option<Step<'a>> {
-        match self.last {
-            Last::Nothing => None,
-            Last::Define(defined) => {
-                self.last = Last::Nothing;
-                if let Some(counts) = self.counts.last_mut() {
-                    counts.define(defined);
-                }
-                None
-            }
-            Last::Enter(open) => self.open(open),
+    /// Enters the component that a section has.
+    fn enter(&mut self, section: SectionReader<'a>) -> Step<'a> {
+        let Range { start: place, end } = section.range();
+        let (start, bytes) = (section.left.reached(), section.left.rest);
+        if self.around.reserve().is_err() {
+            let error = self.end(ReadError::memory());
+            return Step::Unread(Unread { error, range: start..end, count: 0 });
         }
-    }
-
-    /// Opens a component. Returns what isn't read of it.
-    #[inline(never)]
-    fn open(&mut self, mut open: Open) -> Option<Step<'a>> {
-        (self.last, self.items) = (Last::Nothing, None);
-        let (error, range) = (self.refused.take(), open.next..open.end);
-        if error.is_some() {
-            open.next = open.end;
-        }
-        // memory is reserved
-        self.open.push(open);
-        self.counts.push(IndexCounts::default());
-        error.map(|error| self.pass(error, range, 0))
-    }
-
-    /// Enters the component that an item is, which is at a byte offset of its section.
-    fn enter(&mut self, item: Item<'a>, section: usize) -> Step<'a> {
-        let (Range { start, end }, bytes) = (item.range.clone(), &self.bytes[item.range.clone()]);
-        if let Err(error) = self.reserve() {
-            return Step::Unread(Unread { error: self.end(error), range: start..end, count: 0 });
-        }
-        let sections = proved::Sections::new(bytes);
-        let (next, error) = match sections {
+        let (next, error) = match proved::Sections::new(bytes) {
             _ if self.depth() >= self.limit => {
-                (start, Some(ReadError::depth(section, start, self.limit)))
+                (start, Some(ReadError::depth(place, start, self.limit)))
             }
             Err(_) => (start, Some(ReadError::header(Format::Component, start, bytes))),
             Ok(sections) => (end - sections.rest.len(), None),
         };
-        (self.last, self.refused) = (Last::Enter(Open { next, end }), error);
-        Step::Enter(item)
+        self.last = Last::Enter(Open { next, end }, error);
+        Step::Enter(Item { range: start..end, view: ItemView::Component(bytes) })
     }
 
-    /// Passes over what isn't read, which may define any number of indices.
-    #[cold]
-    fn pass(&mut self, error: ReadError, range: Range<usize>, count: u32) -> Step<'a> {
-        if let Some(counts) = self.counts.last_mut().filter(|_| error.part != Part::Rest) {
-            match error.id.map(u8::try_into) {
-                Some(Ok(section)) => counts.add_unread(section),
-                _ => counts.add_unknown(),
+    /// Enters the component of the section that was returned last, or opens the one that was entered
+    /// last.
+    #[inline(never)]
+    fn settle(&mut self) -> Option<Step<'a>> {
+        self.items = None;
+        match mem::replace(&mut self.last, Last::Nothing) {
+            Last::Nothing => None,
+            Last::Section(section) => Some(self.enter(section)),
+            Last::Enter(mut open, error) => {
+                let range = open.next..open.end;
+                if error.is_some() {
+                    open.next = open.end;
+                }
+                // memory is reserved
+                self.around.push(mem::replace(&mut self.innermost, open));
+                error.map(|error| Step::Unread(Unread { error, range, count: 0 }))
             }
         }
-        Step::Unread(Unread { error, range, count })
     }
 
-    /// Returns the next item of the section, or what is left of it if that isn't one.
+    /// Passes over a section that can't be read.
+    #[cold]
+    fn pass(&mut self, error: ReadError) -> Step<'a> {
+        let Open { next, end } = self.innermost;
+        let raw = Sections::within(self.bytes, next..end).and_then(|mut of| of.next_raw());
+        let range = raw.map_or(next..end, |(range, _)| range);
+        self.innermost.next = range.end;
+        Step::Unread(Unread { error, range, count: 0 })
+    }
+
+    /// Returns the step after the items of a section.
     #[inline]
-    fn next_item(&mut self) -> Option<Step<'a>> {
-        let items = self.items.as_mut()?;
-        let (left, count) = items.left()?;
-        let section = items.section();
-        match items.next_apart()? {
-            Ok(item @ Item { view: ItemView::Component(_), .. }) => Some(self.enter(item, section)),
-            Ok(item) => {
-                self.last = Last::Define(item.view.defined_indices());
-                Some(Step::Item(item))
+    fn next_section(&mut self) -> Option<Step<'a>> {
+        if !matches!(self.last, Last::Nothing) {
+            if let Some(step) = self.settle() {
+                return Some(step);
             }
-            Err(error) => Some(self.pass(error, left, count)),
+        }
+        let Open { next, end } = self.innermost;
+        match Sections::within(self.bytes, next..end)?.next() {
+            Some(Ok(section)) => {
+                self.innermost.next = section.range().end;
+                if section.id() == ComponentSectionId::Component.into() {
+                    self.last = Last::Section(section);
+                } else {
+                    self.items = Some(section.items());
+                }
+                Some(Step::Section(section))
+            }
+            Some(Err(error)) => Some(self.pass(error)),
+            None => {
+                self.innermost = self.around.pop()?;
+                Some(Step::Leave)
+            }
         }
     }
 }
@@ -263,33 +237,10 @@ impl<'a> Iterator for Walk<'a> {
     type Item = Step<'a>;
 
     fn next(&mut self) -> Option<Step<'a>> {
-        if let Some(step) = self.settle().or_else(|| self.next_item()) {
+        if let Some(step) = self.items.as_mut().and_then(Items::step) {
             return Some(step);
         }
-        self.items = None;
-        let Open { next, end } = *self.open.last()?;
-        let mut sections = Sections::within(self.bytes, next..end)?;
-        let frame = sections.clone();
-        match sections.next() {
-            Some(Ok(section)) => {
-                self.items = Some(section.items());
-                self.open.last_mut()?.next = section.range().end;
-                Some(Step::Section(section))
-            }
-            Some(Err(error)) => {
-                let range = { frame }.next_raw().map_or(next..end, |(range, _)| range);
-                self.open.last_mut()?.next = range.end;
-                Some(self.pass(error, range, 0))
-            }
-            // the outermost one stays open
-            None if self.open.len() == 1 => None,
-            None => {
-                self.open.pop();
-                self.counts.pop();
-                self.last = Last::Define(Some((Space::Components, 1)));
-                Some(Step::Leave)
-            }
-        }
+        self.next_section()
     }
 
     #[inline]
@@ -299,3 +250,35 @@ impl<'a> Iterator for Walk<'a> {
 }
 
 impl FusedIterator for Walk<'_> {}
+
+/// The number of components that take no memory.
+const FEW: usize = 8;
+
+/// The components around the innermost one.
+#[derive(Clone, Debug)]
+struct Around {
+    len: usize,
+    few: [Open; FEW],
+    more: Vec<Open>,
+}
+
+impl Around {
+    /// Reserves memory for one more.
+    fn reserve(&mut self) -> Result<(), TryReserveError> {
+        if self.len < FEW { Ok(()) } else { self.more.try_reserve(1) }
+    }
+
+    fn push(&mut self, open: Open) {
+        match self.few.get_mut(self.len) {
+            Some(place) => *place = open,
+            None => self.more.push(open),
+        }
+        // 32 bits: each is that of a component in the one before it, of 8 bytes at least.
+        self.len += 1;
+    }
+
+    fn pop(&mut self) -> Option<Open> {
+        self.len = self.len.checked_sub(1)?;
+        self.few.get(self.len).copied().or_else(|| self.more.pop())
+    }
+}

@@ -46,8 +46,8 @@ fn millions_of_components_in_one_another_are_walked() {
     };
     let (counted, requested) = requested(count);
     assert_eq!(counted, (2_000_001, 2_000_000));
-    // 120 bytes for each depth, in lists that double
-    assert!(requested <= 4 * 2_000_000 * 120, "{requested}");
+    // 16 bytes for each depth, in lists that double
+    assert!(requested <= 4 * 2_000_000 * 16, "{requested}");
     let error = walk(1_999_999).items().last().expect("an error").expect_err("it is too deep");
     assert_eq!((error.part, error.offset), (Part::Depth, component.len() - 7 - 8));
 }

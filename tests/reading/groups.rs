@@ -45,7 +45,7 @@ fn each_type_has_its_definition() {
 fn each_type_is_counted() {
     let bytes = component(&types());
     let sections = Sections::new(&bytes).expect("a component");
-    let mut walk = wenc::Walk::new(&bytes, 0).expect("a component");
+    let mut walk = wenc::Walk::new(&bytes, 0).and_then(wenc::Walk::counted).expect("a component");
     assert_eq!(walk.by_ref().count(), 3);
     assert_eq!([TYPES, Space::Types].map(|space| walk.counts().of(space)), [4, 0]);
     let (mut counts, mut found) = (IndexCounts::default(), Vec::new());

@@ -52,7 +52,7 @@ fn items_of(listing: &Listing) -> impl Iterator<Item = &ItemTree> {
 
 /// A walk counts the indices, for upstream's counts one more for each further type of a group.
 fn are_counted(bytes: &[u8], listing: &Listing) {
-    let mut walk = Walk::new(bytes, 100).expect("a component");
+    let mut walk = Walk::new(bytes, 100).and_then(Walk::counted).expect("a component");
     while walk.next().is_some() {}
     for space in Space::ALL {
         let count = u128::from(walk.counts().of(space));

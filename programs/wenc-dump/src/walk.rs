@@ -9,7 +9,7 @@ use std::io;
 use std::ops::Range;
 use wenc::tree::{IndexCounts, Space};
 use wenc::view::ItemView;
-use wenc::{CoreSections, DebugNames, Item, Part as Unreadable, Step, Unread, Walk as Steps};
+use wenc::{CountedWalk as Steps, CoreSections, DebugNames, Item, Part as Unreadable, Step, Unread};
 
 /// The maximum number of components around one, as of types.
 pub const DEPTH: usize = 99;
@@ -70,7 +70,7 @@ pub fn walk(
         walk.core_sections(0..bytes.len(), sections)?;
         return walk.report.close();
     }
-    match Steps::new(bytes, DEPTH) {
+    match wenc::Walk::new(bytes, DEPTH).and_then(wenc::Walk::counted) {
         Ok(steps) => walk.component(steps),
         Err(error) if error.is_memory() => Err(io::ErrorKind::OutOfMemory.into()),
         Err(error) => walk.fault(error.into()),

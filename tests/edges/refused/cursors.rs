@@ -43,22 +43,24 @@ fn nested(count: usize) -> Vec<u8> {
     [&Component::HEADER[..], &section.unwrap_or_default()].concat()
 }
 
-/// A walk asks for more memory at each fifth component around the next step.
+/// A walk asks for memory where more than eight components are around the next step; one that counts
+/// indices at each fourth, or where what it has doubles.
 #[test]
 fn nested_components() {
-    for (count, requests) in [(1, 0), (4, 0), (5, 2), (8, 2), (9, 4)] {
+    fn error(step: Step<'_>) -> Result<(), ReadError> {
+        if let Step::Unread(unread) = step { Err(unread.error) } else { Ok(()) }
+    }
+    for (count, requests, counted) in [(1, 0, 0), (4, 0, 0), (5, 0, 1), (9, 0, 2), (10, 1, 3)] {
         let component = nested(count);
-        let steps = || {
-            Walk::new(&component, count).expect("a component").map(|step| match step {
-                Step::Unread(unread) => Err(unread.error),
-                _ => Ok(()),
-            })
-        };
-        assert_eq!(steps().count(), 3 * (count - 1));
-        each_is_refused(steps, Error::NoMemory.into(), requests);
+        let walk = || Walk::new(&component, count).expect("a component");
+        assert_eq!(walk().count(), 3 * (count - 1));
+        each_is_refused(|| walk().map(error), Error::NoMemory.into(), requests);
+        let steps = || walk().counted().expect("there is memory").map(error);
+        each_is_refused(steps, Error::NoMemory.into(), counted);
     }
     let component = nested(1);
-    let (begun, is_refused) = refusing(0, || Walk::new(&component, 0).map(|_| ()));
+    let walk = Walk::new(&component, 0).expect("a component");
+    let (begun, is_refused) = refusing(0, || walk.counted().map(|_| ()));
     assert_eq!((begun, is_refused), (Err(Error::NoMemory.into()), true));
 }
 
@@ -69,7 +71,7 @@ fn indices_out_of_range() {
     for (component, found, requests) in [
         (&nested(1)[..], 0, 0),
         (&nested(3), 0, 0),
-        (&nested(6), 0, 2),
+        (&nested(6), 0, 1),
         (b"\0asm\x0d\0\x01\0\x07\x05\x02\x70\x09\x70\x09", 2, 1),
     ] {
         let all = || Walk::new(component, 8).expect("a component").out_of_range();
