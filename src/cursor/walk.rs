@@ -206,7 +206,7 @@ impl<'a> Walk<'a> {
     }
 
     /// Returns the step after the items of a section.
-    #[inline]
+    #[inline(never)]
     fn next_section(&mut self) -> Option<Step<'a>> {
         if !matches!(self.last, Last::Nothing) {
             if let Some(step) = self.settle() {
@@ -214,10 +214,12 @@ impl<'a> Walk<'a> {
             }
         }
         let Open { next, end } = self.innermost;
-        match Sections::within(self.bytes, next..end)?.next() {
+        let rest = self.bytes.get(next..end)?;
+        let left = Some(proved::Sections { ends: end, rest });
+        match (Sections { bytes: self.bytes, left }).next() {
             Some(Ok(section)) => {
-                self.innermost.next = section.range().end;
-                if section.id() == ComponentSectionId::Component.into() {
+                self.innermost.next = section.left.ends;
+                if section.left.id == COMPONENT {
                     self.last = Last::Section(section);
                 } else {
                     self.items = Some(section.items());
@@ -236,6 +238,7 @@ impl<'a> Walk<'a> {
 impl<'a> Iterator for Walk<'a> {
     type Item = Step<'a>;
 
+    #[inline]
     fn next(&mut self) -> Option<Step<'a>> {
         if let Some(step) = self.items.as_mut().and_then(Items::step) {
             return Some(step);
@@ -250,6 +253,9 @@ impl<'a> Iterator for Walk<'a> {
 }
 
 impl FusedIterator for Walk<'_> {}
+
+/// The id of a section with a nested component.
+const COMPONENT: u8 = ComponentSectionId::Component as u8;
 
 /// The number of components that take no memory.
 const FEW: usize = 8;
