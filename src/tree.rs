@@ -60,6 +60,7 @@ mod collections;
 mod conversions;
 #[cfg(feature = "tree")]
 mod encode;
+mod encoded;
 mod fields;
 mod indices;
 mod node;

@@ -9,6 +9,7 @@
 
 mod debug_names;
 mod definitions;
+mod encoded;
 mod docs;
 mod examples;
 mod features;
