@@ -614,3 +614,18 @@ fn exports_of_an_ascribed_type() {
     };
     assert_eq!((count(0), count(1)), (2, 1));
 }
+
+/// What a component defines that isn't entered isn't known.
+#[test]
+fn beyond_the_limit() {
+    let bytes = b"\0asm\x0d\0\x01\0\x04\x15\0asm\x0d\0\x01\0\x07\x02\x01\x79\x0b\x07\x01\0\x01t\x03\0\0\
+        \x05\x04\x01\0\0\0\x06\x06\x01\x03\0\0\x01t";
+    let definitions = Definitions::past_faults(bytes, 0, |_| {});
+    let instances = definitions.instances();
+    let alias = instances.component().resolve(Space::Types, 0).map(|of| of.place());
+    assert_eq!(alias, Err(ScopeFault::Unread { place: 40, space: Space::Types, unread: 10 }));
+    assert_eq!(inner(instances.component(), Space::Components, 0).count(Space::Types), u64::MAX);
+    let definitions = Definitions::new(bytes, 1).expect("it is read");
+    let instances = definitions.instances();
+    assert_eq!(instances.component().resolve(Space::Types, 0).map(|of| of.place()), Ok(21));
+}
