@@ -6,10 +6,9 @@ use crate::shim::alloc::Global;
 
 pub use crate::proved::wenc_list::{ListedSection, Listing};
 
-/// Reads a component. Returns its sections with their items and byte offsets, and the number of
-/// indices that the items define ([component model, binary format, "Component
-/// Definitions"][definitions]). The bytes have at most one reading, and this is it. Core modules
-/// and nested components are returned as bytes, which aren't read.
+/// Reads a component. Returns its sections with their items and byte offsets ([component model,
+/// binary format, "Component Definitions"][definitions]). The bytes have at most one reading, and
+/// this is it. Core modules and nested components are returned as bytes, which aren't read.
 ///
 /// Needs the feature `tree`.
 ///
@@ -43,7 +42,6 @@ pub use crate::proved::wenc_list::{ListedSection, Listing};
 /// assert_eq!((section.id, section.place), (10, 15));
 /// let name = "f".into();
 /// assert_eq!(section.items[0], ItemTree::Import { name, ty: ComponentTypeRef::Func(0) });
-/// assert_eq!(listing.counts, [0, 0, 0, 0, 0, 0, 0, 0, 1, 0, 0, 0, 1]);
 ///
 /// let error = list(&bytes[..13]).unwrap_err();
 /// assert_eq!((error.offset, error.cause), (8, Cause::Few { place: 10, needed: 5, len: 3 }));

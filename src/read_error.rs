@@ -210,6 +210,22 @@ impl ReadError {
         self.cause.place().unwrap_or(self.offset)
     }
 
+    /// Returns the id of the section whose items can't be read; `None` if it isn't known what can't
+    /// be read.
+    pub(crate) fn section_id(&self) -> Option<ComponentSectionId> {
+        let is_within = matches!(
+            (self.format, self.part),
+            (Format::Component, Part::Section | Part::Count | Part::Item(_) | Part::Rest)
+        );
+        self.id.filter(|_| is_within)?.try_into().ok()
+    }
+
+    /// Returns whether a section exceeds the component that it is in, so that one of their sizes is
+    /// wrong.
+    pub(crate) fn is_cut(&self) -> bool {
+        (self.format, self.part, self.id) == (Format::Component, Part::Section, None)
+    }
+
     /// Returns whether the part is a section with an unknown id.
     fn is_unknown(&self) -> bool {
         (self.format, self.part) == (Format::Component, Part::Section)

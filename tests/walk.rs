@@ -64,7 +64,7 @@ fn indices_are_found() -> Result<(), ReadError> {
     let sections = Sections::new(COMPONENT)?;
     let mut walk = Walk::new(COMPONENT, 0)?.counted()?;
     assert_eq!(walk.by_ref().count(), 6);
-    assert_eq!([Space::Types, Space::Funcs].map(|space| walk.counts().of(space)), [1, 1]);
+    assert_eq!([Space::Types, Space::Funcs].map(|space| walk.counts().of(space)), [Some(1); 2]);
     let (space, scope) = (Space::Types, Scope::Component(0));
     let mut used = Vec::new();
     for item in sections.items() {

@@ -10,7 +10,8 @@
 //! - `outer`: an index, where `in (count, space)` follows the fields: in that space of the scope
 //!   that is `count` further out;
 //! - `inner`: the declarations of a type that has index spaces of its own;
-//! - `group`: core types that may refer to each other.
+//! - `group`: core types that may refer to each other;
+//! - `named`: the one field of a variant that is a struct with this field in the owned type.
 //!
 //! The indices that a variant defines, if it is a declaration, follow `=>`.
 
@@ -299,7 +300,7 @@ enums! {
 }
 
 enums! {
-    CoreCompositeView<'_> { Func { params, results }, Array(ty), Struct(fields) }
+    CoreCompositeView<'_> { Func { params, results }, Array(ty), Struct(fields: named) }
 }
 
 enums! {

@@ -618,7 +618,8 @@ fn exports_of_an_ascribed_type() {
 /// What a component defines that isn't entered isn't known.
 #[test]
 fn beyond_the_limit() {
-    let bytes = b"\0asm\x0d\0\x01\0\x04\x15\0asm\x0d\0\x01\0\x07\x02\x01\x79\x0b\x07\x01\0\x01t\x03\0\0\
+    let bytes =
+        b"\0asm\x0d\0\x01\0\x04\x15\0asm\x0d\0\x01\0\x07\x02\x01\x79\x0b\x07\x01\0\x01t\x03\0\0\
         \x05\x04\x01\0\0\0\x06\x06\x01\x03\0\0\x01t";
     let definitions = Definitions::past_faults(bytes, 0, |_| {});
     let instances = definitions.instances();

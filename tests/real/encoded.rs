@@ -15,7 +15,12 @@ fn are_told(bytes: &[u8]) -> usize {
             assert!(!matches!(node, Node::Tuple(_)));
             at = range.end;
         });
-        assert!(is_whole && at == item.range.end, "{:?} {at} {:x?}", item, &bytes[item.range.clone()]);
+        assert!(
+            is_whole && at == item.range.end,
+            "{:?} {at} {:x?}",
+            item,
+            &bytes[item.range.clone()]
+        );
         items += 1;
     }
     items
@@ -25,6 +30,7 @@ fn are_told(bytes: &[u8]) -> usize {
 fn each_byte_has_a_value() {
     let components = corpus::components().into_iter().map(|(_, bytes)| bytes);
     let random = (1..=64).map(|seed| random::components(seed, 2, false).0);
-    let items: usize = components.chain([features::known()]).chain(random).map(|of| are_told(&of)).sum();
+    let items: usize =
+        components.chain([features::known()]).chain(random).map(|of| are_told(&of)).sum();
     assert!(items > 3000, "{items}");
 }

@@ -8,7 +8,7 @@ use super::words;
 use std::io;
 use std::ops::Range;
 use wenc::tree::{CoreEntityType, IndexCounts, Space};
-use wenc::{CoreItem, CoreSection, CoreSections, Part as Unreadable, ReadError, SectionId};
+use wenc::{CoreItem, CoreSection, CoreSections, ReadError, SectionId};
 
 /// Returns the space in which an item has an index, if any.
 fn space(item: &CoreItem) -> Option<Space> {
@@ -94,9 +94,7 @@ impl Walk<'_, '_> {
             match item {
                 Ok((range, item)) => self.core_item(at, section, range, &item, counts)?,
                 Err(error) => {
-                    if error.part != Unreadable::Rest {
-                        counts.add_unknown();
-                    }
+                    counts.add_unknown();
                     self.unread(error.moved(at).into(), range.end, !are_shown)?;
                 }
             }

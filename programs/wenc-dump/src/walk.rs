@@ -9,7 +9,9 @@ use std::io;
 use std::ops::Range;
 use wenc::tree::{IndexCounts, Space};
 use wenc::view::ItemView;
-use wenc::{CountedWalk as Steps, CoreSections, DebugNames, Item, Part as Unreadable, Step, Unread};
+use wenc::{
+    CoreSections, CountedWalk as Steps, DebugNames, Item, Part as Unreadable, Step, Unread,
+};
 
 /// The maximum number of components around one, as of types.
 pub const DEPTH: usize = 99;
@@ -45,7 +47,7 @@ pub(super) fn label<'a>(
     count: u32,
     names: Option<&'a DebugNames>,
 ) -> Label<'a> {
-    let from = Some(counts.of(space)).filter(|from| *from < u64::MAX);
+    let from = counts.of(space);
     let index = from.and_then(|from| u32::try_from(from).ok()).filter(|_| count > 0);
     let name = names.zip(index).and_then(|(names, index)| names.get(space, index));
     Label { space, from, count, name }

@@ -197,6 +197,9 @@ macro_rules! shape {
     ($name:ident) => {
         Shape::new(Kind::Word, stringify!($name), &[])
     };
+    ($name:ident($field:ident: named)) => {
+        shape!(Struct $name { $field })
+    };
     ($name:ident($field:ident $(: $role:tt)?)) => {
         shape!(Variant $name { $field $(: $role)? })
     };
