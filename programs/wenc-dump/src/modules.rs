@@ -8,11 +8,12 @@ use super::words;
 use std::io;
 use std::ops::Range;
 use wenc::tree::{CoreEntityType, IndexCounts, Space};
+use wenc::view::CoreItemView;
 use wenc::{CoreItem, CoreSection, CoreSections, ReadError, SectionId};
 
 /// Returns the space in which an item has an index, if any.
-fn space(item: &CoreItem) -> Option<Space> {
-    let CoreItem::Import { ty, .. } = item else { return None };
+fn space(item: &CoreItemView) -> Option<Space> {
+    let CoreItemView::Import { ty, .. } = item else { return None };
     Some(match ty {
         CoreEntityType::Function(_) => Space::CoreFuncs,
         CoreEntityType::Table(_) => Space::CoreTables,
@@ -92,7 +93,7 @@ impl Walk<'_, '_> {
         }
         for item in section.items() {
             match item {
-                Ok((range, item)) => self.core_item(at, section, range, &item, counts)?,
+                Ok(item) => self.core_item(at, section, &item, counts)?,
                 Err(error) => {
                     counts.add_unknown();
                     self.unread(error.moved(at).into(), range.end, !are_shown)?;
@@ -107,18 +108,17 @@ impl Walk<'_, '_> {
         &mut self,
         at: usize,
         section: &CoreSection,
-        range: Range<usize>,
-        item: &CoreItem,
+        CoreItem { range, view, .. }: &CoreItem,
         counts: &mut IndexCounts,
     ) -> io::Result<()> {
         let data_start = section.range.end - section.data.len();
         self.report.open(&Part::Item {
             range: at + range.start..at + range.end,
-            label: space(item).map(|space| label(counts, space, 1, None)),
-            content: Content::Node(&phrase::of_item(item.node()), &[]),
+            label: space(view).map(|space| label(counts, space, 1, None)),
+            content: Content::Node(&phrase::of_item(view.node()), &[]),
             bytes: &section.data[range.start - data_start..range.end - data_start],
         })?;
-        counts.define(space(item).map(|space| (space, 1)));
+        counts.define(space(view).map(|space| (space, 1)));
         self.report.close()
     }
 }

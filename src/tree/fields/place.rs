@@ -1,5 +1,6 @@
 //! Where a value is, which determines what an index is of, and whether there is such an index.
 
+use super::shape::Tags;
 use super::{Scope, Space};
 use crate::tree::Node;
 use crate::view::ItemView;
@@ -143,6 +144,8 @@ pub(in crate::tree) struct Place<'s> {
     is_scope: bool,
     /// The number of core types that the group around the value defines.
     group: u32,
+    /// The bytes before the value, if it is an option.
+    pub tags: Tags,
     /// The scopes around the value, if they are known.
     scopes: Option<&'s Scopes<'s>>,
 }
@@ -180,6 +183,11 @@ impl<'s> Place<'s> {
     /// Returns the place of an index in a space of the scope that is `count` further out.
     pub fn outer(self, count: u32, space: Space) -> Self {
         Self { index_of: Some((space, count)), ..self }
+    }
+
+    /// Returns the place of an option with these bytes before it.
+    pub fn tagged(self, tags: Tags) -> Self {
+        Self { tags, ..self }
     }
 
     /// Returns the place of a field that is encoded after the others.
