@@ -11,7 +11,7 @@ use core::ops::Range;
 /// An item of a core module.
 ///
 /// Needs the feature `walk`.
-#[derive(Clone, Debug, PartialEq, Eq)]
+#[derive(Clone, Debug, PartialEq, Eq, Hash)]
 #[non_exhaustive]
 pub struct CoreItem<'a> {
     /// Its byte offsets in the module.
@@ -24,7 +24,8 @@ pub struct CoreItem<'a> {
 /// Section", "Export Section" and "Start Section").
 ///
 /// Needs the feature `walk`.
-#[derive(Clone, Copy, Debug, PartialEq, Eq)]
+#[derive(Clone, Copy, Debug, PartialEq, Eq, Hash)]
+#[non_exhaustive]
 pub enum CoreItemView<'a> {
     /// An import.
     Import {
@@ -143,6 +144,7 @@ impl<'a> CoreSection<'a> {
 ///
 /// Needs the feature `walk`.
 #[derive(Clone, Debug)]
+#[must_use = "nothing is read before it is iterated over"]
 pub struct CoreItems<'a> {
     /// The byte offset and the id of the section.
     section: (usize, u8),

@@ -90,7 +90,6 @@
 //!   types.
 //! - `tree` adds items that own what they contain, to `walk`: [`list`], [`ItemSection`], the other
 //!   types of [`tree`], and the calls that take or return them.
-//! - `reader` is the same as `tree`.
 // Without the features there is nothing to link to but their description.
 #![cfg_attr(not(feature = "tree"), doc = "")]
 #![cfg_attr(not(feature = "tree"), doc = "[`list`]: #features")]

@@ -4,7 +4,27 @@ use crate::ReadError;
 use crate::proved::wenc_list::list_or_refusal;
 use crate::shim::alloc::Global;
 
-pub use crate::proved::wenc_list::{ListedSection, Listing};
+pub use crate::proved::wenc_list::ListedSection;
+/// A component that was read, with its items as owned values.
+///
+/// ```
+/// use wenc::tree::ItemTree;
+/// use wenc::{Listing, ReadError, list};
+///
+/// /// Returns the names of the imports.
+/// fn imports(listing: Listing) -> Vec<String> {
+///     let items = listing.sections.into_iter().flat_map(|section| section.items);
+///     items.filter_map(|item| match item {
+///         ItemTree::Import { name, .. } => Some(name.name),
+///         _ => None,
+///     }).collect()
+/// }
+///
+/// let component = b"\0asm\x0d\0\x01\0\x07\x05\x01\x40\0\x01\0\x0a\x06\x01\0\x01f\x01\0";
+/// assert_eq!(imports(list(component)?), ["f"]);
+/// # Ok::<(), ReadError>(())
+/// ```
+pub use crate::proved::wenc_list::Listing;
 
 /// Reads a component. Returns its sections with their items and byte offsets ([component model,
 /// binary format, "Component Definitions"][definitions]). The bytes have at most one reading, and
@@ -27,7 +47,8 @@ pub use crate::proved::wenc_list::{ListedSection, Listing};
 ///
 /// # Errors
 ///
-/// The first part that can't be read, or [`NoMemory`](crate::Cause::NoMemory). A count that the bytes can't fill reserves nothing.
+/// The error of the first part that can't be read, or [`NoMemory`](crate::Cause::NoMemory). A count
+/// that the bytes can't fill reserves nothing.
 ///
 /// [definitions]: https://github.com/WebAssembly/component-model/blob/main/design/mvp/Binary.md#component-definitions
 ///

@@ -51,7 +51,10 @@ pub struct ReadError {
 }
 
 /// What is read.
+///
+/// Needs the feature `walk`.
 #[derive(Clone, Copy, Debug, PartialEq, Eq, Hash)]
+#[non_exhaustive]
 pub enum Format {
     /// A component.
     Component,
@@ -64,6 +67,8 @@ pub enum Format {
 }
 
 /// The first part that can't be read.
+///
+/// Needs the feature `walk`.
 #[derive(Clone, Copy, Debug, PartialEq, Eq, Hash)]
 #[non_exhaustive]
 pub enum Part {

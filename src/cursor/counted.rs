@@ -35,6 +35,7 @@ use core::mem;
 /// # Ok::<(), ReadError>(())
 /// ```
 #[derive(Clone, Debug)]
+#[must_use = "nothing is read before it is iterated over"]
 pub struct CountedWalk<'a> {
     walk: Walk<'a>,
     /// What the components define before the last step, the outermost first: one more after the

@@ -43,6 +43,7 @@ use core::ops::Range;
 /// # Ok::<(), ReadError>(())
 /// ```
 #[derive(Clone, Debug)]
+#[must_use = "nothing is read before it is iterated over"]
 pub struct Walk<'a> {
     bytes: &'a [u8],
     limit: usize,
@@ -74,7 +75,7 @@ enum Last<'a> {
 /// A step of a [`Walk`].
 ///
 /// Needs the feature `walk`.
-#[derive(Clone, Debug)]
+#[derive(Clone, Debug, PartialEq, Eq)]
 #[non_exhaustive]
 pub enum Step<'a> {
     /// A section, whose items follow.
@@ -90,10 +91,29 @@ pub enum Step<'a> {
     Unread(Unread),
 }
 
-/// What a [`Walk`] passes over.
+/// What a [`Walk`] passes over, for the error of its first part. The steps after it are those of
+/// what follows.
 ///
 /// Needs the feature `walk`.
-#[derive(Clone, Debug, PartialEq, Eq)]
+///
+/// ```
+/// use wenc::{Part, ReadError, Step, Walk};
+///
+/// // two types, the second of which is changed to something else, and an import
+/// let mut component =
+///     *b"\0asm\x0d\0\x01\0\x07\x06\x02\x40\0\x01\0\x7d\x0a\x06\x01\0\x01f\x01\0";
+/// component[15] = 0xff;
+/// let mut walk = Walk::new(&component, 100)?;
+/// let unread = walk.find_map(|step| match step {
+///     Step::Unread(unread) => Some(unread),
+///     _ => None,
+/// });
+/// let unread = unread.expect("the second type");
+/// assert_eq!((unread.range, unread.count, unread.error.part), (15..16, 1, Part::Item(1)));
+/// assert!(matches!(walk.next(), Some(Step::Section(section)) if section.id() == 10));
+/// # Ok::<(), ReadError>(())
+/// ```
+#[derive(Clone, Debug, PartialEq, Eq, Hash)]
 #[non_exhaustive]
 pub struct Unread {
     /// Why it can't be read.

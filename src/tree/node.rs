@@ -99,7 +99,7 @@ pub enum Node<'a> {
 }
 
 /// An index that an item contains, as [`Node::each_index`] visits it.
-#[derive(Clone, Copy, Debug, PartialEq, Eq)]
+#[derive(Clone, Copy, Debug, PartialEq, Eq, Hash)]
 pub struct UsedIndex {
     /// The index space that the index is in.
     pub space: Space,
