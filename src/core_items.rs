@@ -199,8 +199,7 @@ impl<'a> CoreItems<'a> {
 
 /// # Errors
 ///
-/// [`ReadError`] if the count or an item can't be read, or if bytes follow the last
-/// item.
+/// [`ReadError`] if the count or an item can't be read, or if bytes follow the last item.
 impl<'a> Iterator for CoreItems<'a> {
     type Item = Result<CoreItem<'a>, ReadError>;
 

@@ -190,8 +190,8 @@ pub(crate) fn parts_in(len: usize) -> (usize, Option<usize>) {
 
 /// # Errors
 ///
-/// [`Part::Section`](crate::Part::Section) if the bytes aren't a section, and [`Part::Count`](crate::Part::Count) if a section
-/// lacks its count.
+/// [`Part::Section`](crate::Part::Section) if the bytes aren't a section, and
+/// [`Part::Count`](crate::Part::Count) if a section lacks its count.
 impl<'a> Iterator for Sections<'a> {
     type Item = Result<SectionReader<'a>, ReadError>;
 

@@ -47,8 +47,8 @@ pub use crate::proved::wenc_list::Listing;
 ///
 /// # Errors
 ///
-/// The error of the first part that can't be read, or [`NoMemory`](crate::Cause::NoMemory). A count
-/// that the bytes can't fill reserves nothing.
+/// The error of the first part that can't be read, or [`NoMemory`](crate::Cause::NoMemory) if
+/// an allocation fails. A count that the bytes can't fill reserves nothing.
 ///
 /// [definitions]: https://github.com/WebAssembly/component-model/blob/main/design/mvp/Binary.md#component-definitions
 ///

@@ -61,7 +61,7 @@ impl<'a> Walk<'a> {
     ///
     /// # Errors
     ///
-    /// [`NoMemory`](crate::Cause::NoMemory).
+    /// Fails with [`NoMemory`](crate::Cause::NoMemory) if an allocation fails.
     pub fn counted(self) -> Result<CountedWalk<'a>, ReadError> {
         let mut counts = Vec::new();
         for _ in 0..=self.depth() {

@@ -24,8 +24,9 @@ impl ItemTree {
     ///
     /// # Errors
     ///
-    /// The first part of a component that can't be read, or
-    /// [`Cause::Unwritten`](crate::Cause::Unwritten) if it can't be encoded again. The item is then unchanged, but `visit` may have been called.
+    /// The error of the first part of a component that can't be read, or
+    /// [`Cause::Unwritten`](crate::Cause::Unwritten) if it can't be encoded again. The item is then
+    /// unchanged, but `visit` may have been called.
     ///
     /// ```
     /// use wenc::list;
