@@ -1,6 +1,6 @@
 //! What the indices of a component mean.
 //!
-//! Needs the feature `walk`.
+//! Needs the feature `scope`.
 //!
 //! [`Definitions`] reads a component once, with the components that are nested in it and the types
 //! that have index spaces of their own: component types, instance types and module types. Each of
@@ -69,7 +69,7 @@ const UNKNOWN: u64 = u64::MAX;
 
 /// The definitions of a component, in all of its scopes.
 ///
-/// Needs the feature `walk`.
+/// Needs the feature `scope`.
 ///
 /// On a 64-bit machine each item, each declaration of a type, and each export or argument in the
 /// list of an instance takes at most 320 bytes of memory, and a scope that isn't at its end 320
@@ -251,7 +251,7 @@ impl fmt::Debug for Definitions<'_> {
 
 /// The definitions of a component, with the instances through which they were reached.
 ///
-/// Needs the feature `walk`.
+/// Needs the feature `scope`.
 ///
 /// What is written, [`Definitions`], may be shared by threads, each of which has instances of its
 /// own. Each path of instances that is followed takes at most 64 bytes of memory until these are
@@ -316,7 +316,7 @@ impl fmt::Debug for Instances<'_, '_> {
 /// The index spaces of a component, or of a type that has some of its own, as a whole or as far as
 /// they are defined before one of their definitions (component model, explainer, "Index Spaces").
 ///
-/// Needs the feature `walk`.
+/// Needs the feature `scope`.
 #[derive(Clone, Copy)]
 pub struct Scope<'s, 'a> {
     all: &'s Instances<'s, 'a>,

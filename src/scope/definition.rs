@@ -10,7 +10,7 @@ use core::hash::{Hash, Hasher};
 
 /// An item or a declaration, or an export or an argument in the list of an instance.
 ///
-/// Needs the feature `walk`.
+/// Needs the feature `scope`.
 #[derive(Clone, Copy)]
 pub struct Definition<'s, 'a> {
     all: &'s Instances<'s, 'a>,

@@ -12,7 +12,7 @@ use crate::{
 
 /// What a [`Definition`](super::Definition) is.
 ///
-/// Needs the feature `walk`.
+/// Needs the feature `scope`.
 #[derive(Clone, Copy)]
 pub enum Meaning<'a> {
     /// An item of a component; or a type, a core type, an alias or an import that a component type
