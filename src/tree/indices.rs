@@ -10,10 +10,10 @@ pub use visited::IndexUse;
 #[cfg(feature = "tree")]
 pub(super) use visited::Visitor;
 
+use super::Space;
 use super::fields::defined;
 #[cfg(feature = "tree")]
 use super::fields::group;
-use super::Space;
 #[cfg(feature = "tree")]
 use super::{CoreTypeTree, GroupTree, ItemTree};
 use crate::view::ItemView;
