@@ -76,7 +76,7 @@ const UNKNOWN: u64 = u64::MAX;
 /// On a 64-bit machine they take at most 40 bytes of memory for each byte of the component, and 1 MB:
 /// 36 for each item and declaration and for each member of the list of an instance, 40 for its scope
 /// or list, 60 for its name and what it is the same as, and 72 for each path of instances, of which
-/// there are at most 4096 and one for each 20 bytes. What a definition is the same as is found when
+/// there are at most 8192 and one for each 20 bytes. What a definition is the same as is found when
 /// it is read, so that [`resolve`](Definition::resolve) follows any number of exports and aliases in
 /// the time of one.
 pub struct Definitions<'a> {
@@ -157,6 +157,11 @@ impl<'a> Definitions<'a> {
 }
 
 impl Entry {
+    /// Returns whether this byte offset is one of its own.
+    fn contains(&self, offset: usize) -> bool {
+        (self.place..self.place + self.len as usize).contains(&offset)
+    }
+
     /// Returns the index after its own.
     fn end(&self) -> u64 {
         self.first.saturating_add(self.count().into())
@@ -176,7 +181,7 @@ impl fmt::Debug for Definitions<'_> {
 ///
 /// What is written, [`Definitions`], may be shared by threads, each of which has instances of its
 /// own. Each path of instances that is followed takes at most 72 bytes of memory until these are
-/// dropped; there are at most 4096 paths, and one for each 20 bytes of the component.
+/// dropped; there are at most 8192 paths, and one for each 20 bytes of the component.
 pub struct Instances<'s, 'a> {
     all: &'s Definitions<'a>,
     /// The paths that aren't among those of `all`: their numbers follow those.
@@ -223,6 +228,41 @@ impl<'a> Instances<'_, 'a> {
     ) -> Result<impl FusedIterator<Item = Definition<'s, 'a>>, ScopeFault> {
         let users = self.users_of(of)?.iter();
         Ok(users.map(|number| Definition::new(self, At::written(*number))))
+    }
+
+    /// Returns the item or the declaration whose bytes contain this byte offset, as it is written:
+    /// the innermost if there are several. `None` if there is none, as in the header of a section.
+    ///
+    /// ```
+    /// use wenc::scope::Definitions;
+    ///
+    /// // a type of instances, which declares the type of a function and exports such a function
+    /// let component = b"\0asm\x0d\0\x01\0\x07\x0e\x01\x42\x02\x01\x40\0\x01\0\x04\0\x01f\x01\0";
+    /// let definitions = Definitions::new(component, 100)?;
+    /// let instances = definitions.instances();
+    /// let of_name = instances.at(21).expect("it is in a declaration");
+    /// assert_eq!((of_name.name(), of_name.range()), (Some("f"), 18..24));
+    /// let count = instances.at(12).expect("it is in the type");
+    /// assert_eq!(count.range(), 11..24);
+    /// assert_eq!(instances.at(9), None);
+    /// # Ok::<(), wenc::ReadError>(())
+    /// ```
+    pub fn at(&self, offset: usize) -> Option<Definition<'_, 'a>> {
+        let (mut scope, mut found) = (0, None);
+        loop {
+            let (start, end) = (self.all.frame(scope).start as usize, self.all.end_of(scope));
+            let entries = self.all.entries.get(start..end as usize)?;
+            let after = entries.partition_point(|entry| entry.place <= offset);
+            let at = after.checked_sub(1);
+            let Some(at) = at.filter(|at| entries[*at].contains(offset)) else {
+                return found;
+            };
+            found = Some(Definition::new(self, At::written((start + at) as u32)));
+            match entries[at].inner() {
+                Some(inner) => scope = inner,
+                None => return found,
+            }
+        }
     }
 }
 

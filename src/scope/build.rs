@@ -1,6 +1,6 @@
 //! Reading the definitions of a component.
 
-use super::entry::{Entry, Form, Frame, Link, Role, Target};
+use super::entry::{Entry, Form, Frame, Link, Role, Target, declared};
 use super::meaning::Members;
 use super::paths::Paths;
 use super::{Definitions, Meaning, NONE};
@@ -96,7 +96,24 @@ pub(super) struct Reader<'a> {
     pub open: Vec<Open>,
     /// The declarations and the members that are left of the types and lists around the next one.
     members: Vec<Members<'a>>,
+    /// The longer types that are declared in others, in their order, and how many of them were
+    /// entered: a type is read once for each type around it, but not twice.
+    nested: Vec<Nested>,
+    entered: usize,
 }
+
+/// A component type or an instance type that another one declares.
+struct Nested {
+    /// Its byte offsets, and that of its first declaration.
+    range: Range<usize>,
+    first: usize,
+    /// The number of its declarations.
+    left: u32,
+    is_component: bool,
+}
+
+/// The length from which on types are kept.
+const LONG: usize = 100;
 
 /// A scope whose definitions are being read.
 pub(super) struct Open {
@@ -128,8 +145,9 @@ fn reserved<T>(len: usize) -> Result<Vec<T>, ReadError> {
 
 impl<'a> Reader<'a> {
     fn new(bytes: &'a [u8]) -> Self {
-        let (open, members, sizes) = Default::default();
-        Self { all: Definitions::nothing(bytes), sizes, is_counting: true, open, members }
+        let (open, members, nested, sizes, entered) = Default::default();
+        let all = Definitions::nothing(bytes);
+        Self { all, sizes, is_counting: true, open, members, nested, entered }
     }
 
     /// Reads the component, and passes on its errors, unless it is none or there is no memory.
@@ -198,9 +216,21 @@ impl<'a> Reader<'a> {
         self.meaning(range, form, Meaning::Item(item))?;
         while let Some(members) = self.members.last_mut() {
             let (place, form) = (end.saturating_sub(members.bytes_left()), members.form());
-            match members.next() {
+            let known = self.nested.get(self.entered).filter(|of| of.range.start == place);
+            let next = match known.filter(|_| !self.is_counting) {
+                Some(nested) => {
+                    self.entered += 1;
+                    members.pass(nested.range.len());
+                    nested.meaning(self.all.bytes)
+                }
+                None => members.next(),
+            };
+            match next {
                 Some(meaning) => {
                     let after = end.saturating_sub(members.bytes_left());
+                    if self.is_counting {
+                        self.keep(place..after, end, &meaning)?;
+                    }
                     self.meaning(place..after, form, meaning)?;
                 }
                 None => {
@@ -210,6 +240,19 @@ impl<'a> Reader<'a> {
             }
         }
         Ok(())
+    }
+
+    /// Keeps where the declarations of a declared type are, which ends at this byte offset if its
+    /// section does.
+    fn keep(&mut self, range: Range<usize>, end: usize, of: &Meaning<'a>) -> Result<(), ReadError> {
+        let Some(members) = of.members().filter(|_| range.len() >= LONG) else { return Ok(()) };
+        let (left, is_component) = match members {
+            Members::Component(all) => (all.left, true),
+            Members::Instance(all) => (all.left, false),
+            _ => return Ok(()),
+        };
+        let first = end.saturating_sub(members.bytes_left());
+        push(&mut self.nested, Nested { range, first, left, is_component })
     }
 
     /// Adds a definition, or begins its scope or its list if it has one.
@@ -315,6 +358,14 @@ impl<'a> Reader<'a> {
             all.sort(scope);
         }
         all.follow()
+    }
+}
+
+impl Nested {
+    /// Returns the type, of which nothing is read.
+    fn meaning<'a>(&self, bytes: &'a [u8]) -> Option<Meaning<'a>> {
+        let bytes = bytes.get(self.first..self.range.end)?;
+        Some(Meaning::Item(ItemView::Type(declared(self.is_component, self.left, bytes))))
     }
 }
 

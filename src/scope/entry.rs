@@ -240,16 +240,12 @@ impl<'a> Definitions<'a> {
         let of_first = (start < end).then(|| self.entry(start).place);
         let (from, to) = (entry.place, entry.place + entry.len as usize);
         let bytes = self.bytes.get(of_first.unwrap_or(to).max(from)..to)?;
-        let (depth_left, left) = (DEPTH, end - start);
-        Some(match entry.role {
-            Role::ComponentType => {
-                ItemView::Type(TypeView::Component(ComponentDecls { depth_left, left, bytes }))
-            }
-            Role::InstanceType => {
-                ItemView::Type(TypeView::Instance(InstanceDecls { depth_left, left, bytes }))
-            }
+        let is_component = match entry.role {
+            Role::ComponentType => true,
+            Role::InstanceType => false,
             _ => return None,
-        })
+        };
+        Some(ItemView::Type(declared(is_component, end - start, bytes)))
     }
 
     fn read(&self, entry: &Entry) -> Option<Meaning<'a>> {
@@ -279,3 +275,14 @@ impl<'a> Definitions<'a> {
 
 /// The depth of types that are read.
 const DEPTH: u32 = 100;
+
+/// Returns a component type or an instance type with as many declarations, which these bytes begin
+/// with.
+pub(super) fn declared(is_component: bool, left: u32, bytes: &[u8]) -> TypeView<'_> {
+    let depth_left = DEPTH;
+    if is_component {
+        TypeView::Component(ComponentDecls { depth_left, left, bytes })
+    } else {
+        TypeView::Instance(InstanceDecls { depth_left, left, bytes })
+    }
+}

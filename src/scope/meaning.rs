@@ -298,6 +298,16 @@ impl<'a> Members<'a> {
         }
     }
 
+    /// Passes over the next one, which is a declared type of this length.
+    pub fn pass(&mut self, len: usize) {
+        let (left, bytes) = match self {
+            Self::Component(all) => (&mut all.left, &mut all.bytes),
+            Self::Instance(all) => (&mut all.left, &mut all.bytes),
+            _ => return,
+        };
+        (*left, *bytes) = (left.saturating_sub(1), bytes.get(len..).unwrap_or_default());
+    }
+
     /// Returns how each is read.
     pub fn form(&self) -> Form {
         match self {

@@ -29,7 +29,7 @@ const TODO: usize = 128;
 
 /// The number of paths that there may be in any component, and the number of bytes for each other
 /// one.
-const PATHS: (usize, usize) = (1 << 12, 20);
+const PATHS: (usize, usize) = (1 << 13, 20);
 
 /// An entry with the path of instances through which it is reached: `NONE` for an entry as it is
 /// written, in no instance of its component.
