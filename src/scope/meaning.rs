@@ -1,9 +1,10 @@
 //! What a definition is.
 
-use crate::tree::{Space, defined_in_module, space_of};
+use super::entry::{Form, Role};
+use crate::tree::{Scope, Space, UsedIndex, defined_in_module, space_of};
 use crate::view::{
-    CanonView, ComponentDeclView, ComponentDecls, CoreTypeView, InstanceDeclView, InstanceDecls,
-    ItemView, ListOf, ModuleDeclView, NameView, TypeView,
+    CanonView, ComponentDeclView, ComponentDecls, CoreInstanceView, CoreTypeView, InstanceDeclView,
+    InstanceDecls, InstanceView, ItemView, ListOf, ModuleDeclView, NameView, TypeView,
 };
 use crate::{
     Alias, ComponentExportKind, ComponentSectionId, ComponentTypeRef, ExportKind, ModuleArg,
@@ -12,7 +13,7 @@ use crate::{
 
 /// What a [`Definition`](super::Definition) is.
 ///
-/// Needs the feature `walk`.
+/// Needs the feature `scope`.
 #[derive(Clone, Copy)]
 pub enum Meaning<'a> {
     /// An item of a component; or a type, a core type, an alias or an import that a component type
@@ -43,17 +44,15 @@ pub enum Meaning<'a> {
         /// The core instance.
         argument: ModuleArg,
     },
-    /// Items of a section from a byte offset on that can't be read, once for each space in which
-    /// such items define indices (see [`Definitions::past_faults`](super::Definitions::past_faults)).
+    /// Items of a section from a byte offset on that can't be read (see
+    /// [`Definitions::past_faults`](super::Definitions::past_faults)).
     Unread {
         /// The section; `None` for what may be items of any: a section whose id or size can't be
-        /// read, or a component that isn't entered.
+        /// read.
         section: Option<ComponentSectionId>,
-        /// The space.
-        space: Space,
-        /// The number of indices that they define in it, if it is known.
+        /// The number of items that the section states, if they are canonical functions.
         count: u32,
-        /// Whether it is known.
+        /// Whether they are known to be as many core functions.
         is_known: bool,
     },
     /// An export in the list of a core instance. One in the list of an instance is an
@@ -83,7 +82,6 @@ impl<'a> Meaning<'a> {
             Self::Item(item) => item.defined_indices(),
             Self::Declared { ty, .. } => Some((ty.kind().into(), 1)),
             Self::Module(decl) => defined_in_module(decl),
-            Self::Unread { space, count, .. } => Some((*space, *count)),
             _ => None,
         }
     }
@@ -101,17 +99,40 @@ impl<'a> Meaning<'a> {
         }
     }
 
-    /// Returns its name among the exports of its scope.
-    pub(super) fn export(&self) -> Option<&'a str> {
+    /// Returns the name of an import or an export, also of a declared one, or of an argument.
+    pub(super) fn name(&self) -> Option<&'a str> {
         match *self {
-            Self::Item(ItemView::Export { name, .. }) | Self::Declared { name, .. } => {
-                Some(name.name)
-            }
+            Self::Item(ItemView::Export { name, .. } | ItemView::Import { name, .. })
+            | Self::Declared { name, .. } => Some(name.name),
             Self::Module(ModuleDeclView::Export { name, .. })
             | Self::Argument { name, .. }
             | Self::CoreArgument { name, .. }
             | Self::CoreExport { name, .. } => Some(name),
             _ => None,
+        }
+    }
+
+    /// Returns what it is.
+    pub(super) fn role(&self) -> Role {
+        match self {
+            Self::Item(ItemView::Import { .. }) => Role::Import,
+            Self::Declared { .. } => Role::Declared,
+            Self::Item(ItemView::Export { .. }) if self.is_ascribed() => Role::Ascribed,
+            Self::Item(ItemView::Alias(
+                Alias::InstanceExport { .. } | Alias::CoreInstanceExport { .. },
+            )) => Role::Alias,
+            Self::Module(ModuleDeclView::Export { .. }) => Role::ModuleExport,
+            _ if self.name().is_some() || self.same().is_some() => Role::Linked,
+            Self::Item(ItemView::Type(TypeView::Component(_))) => Role::ComponentType,
+            Self::Item(ItemView::Type(TypeView::Instance(_))) => Role::InstanceType,
+            Self::Item(ItemView::CoreType(CoreTypeView::Module(_))) => Role::ModuleType,
+            Self::Item(
+                ItemView::Instance(InstanceView::Instantiate { .. })
+                | ItemView::CoreInstance(CoreInstanceView::Instantiate { .. }),
+            ) => Role::Instantiate,
+            Self::Item(ItemView::Instance(_) | ItemView::CoreInstance(_)) => Role::List,
+            _ if self.defined().is_some_and(|(_, count)| count != 1) => Role::Several,
+            _ => Role::Plain,
         }
     }
 
@@ -152,15 +173,6 @@ impl<'a> Meaning<'a> {
         !matches!(ty, ComponentTypeRef::Type(TypeBounds::Eq(_)) | ComponentTypeRef::Value(_))
     }
 
-    /// Returns whether it is an import or a declared export of a type that is the same as another
-    /// one, unless an instance has an argument for it, or exports another.
-    pub(super) fn is_bound(&self) -> bool {
-        let (Self::Item(ItemView::Import { ty, .. }) | Self::Declared { ty, .. }) = self else {
-            return false;
-        };
-        matches!(ty, ComponentTypeRef::Type(TypeBounds::Eq(_)))
-    }
-
     /// Returns the definition that it is the same as.
     pub(super) fn same(&self) -> Option<Same<'a>> {
         match *self {
@@ -193,20 +205,50 @@ impl<'a> Meaning<'a> {
         }
     }
 
-    /// Returns the declarations of a type that has index spaces of its own.
-    pub(super) fn declarations(&self) -> Option<Declarations<'a>> {
+    /// Calls a function with each index that it has itself.
+    pub(super) fn each_index(&self, visit: &mut dyn FnMut(UsedIndex)) {
+        let mut one = |space, index| {
+            visit(UsedIndex { space, scope: Scope::Component(0), index, count: None });
+        };
         match *self {
-            Self::Item(ItemView::Type(TypeView::Component(all))) => {
-                Some(Declarations::Component(all))
+            Self::Item(ItemView::Instance(InstanceView::Instantiate { component, .. })) => {
+                one(Space::Components, component);
             }
-            Self::Item(ItemView::Type(TypeView::Instance(all))) => {
-                Some(Declarations::Instance(all))
+            Self::Item(ItemView::CoreInstance(CoreInstanceView::Instantiate {
+                module, ..
+            })) => one(Space::CoreModules, module),
+            Self::Item(ItemView::Instance(_) | ItemView::CoreInstance(_)) => {}
+            Self::Argument { kind, index, .. } => one(kind.into(), index),
+            Self::CoreArgument { argument: ModuleArg::Instance(index), .. } => {
+                one(Space::CoreInstances, index);
             }
-            Self::Item(ItemView::CoreType(CoreTypeView::Module(all))) => {
-                Some(Declarations::Module(all))
+            Self::CoreExport { kind, index, .. } => one(kind.into(), index),
+            Self::Unread { .. } => {}
+            _ if self.members().is_some() => {}
+            Self::Item(item) => item.node().each_index(|used| visit(used)),
+            Self::Declared { name, ty } => {
+                ItemView::Import { name, ty }.node().each_index(|used| visit(used));
             }
-            _ => None,
+            Self::Module(decl) => decl.node().each_index(|used| visit(used)),
         }
+    }
+
+    /// Returns the declarations of a type that has index spaces of its own, or the exports or the
+    /// arguments in the list of an instance.
+    pub(super) fn members(&self) -> Option<Members<'a>> {
+        let Self::Item(item) = *self else { return None };
+        Some(match item {
+            ItemView::Type(TypeView::Component(all)) => Members::Component(all),
+            ItemView::Type(TypeView::Instance(all)) => Members::Instance(all),
+            ItemView::CoreType(CoreTypeView::Module(all)) => Members::Module(all),
+            ItemView::Instance(InstanceView::Instantiate { args, .. }) => Members::Arguments(args),
+            ItemView::Instance(InstanceView::Exports(all)) => Members::Exports(all),
+            ItemView::CoreInstance(CoreInstanceView::Instantiate { args, .. }) => {
+                Members::CoreArguments(args)
+            }
+            ItemView::CoreInstance(CoreInstanceView::Exports(all)) => Members::CoreExports(all),
+            _ => return None,
+        })
     }
 }
 
@@ -230,30 +272,81 @@ impl<'a> From<ComponentDeclView<'a>> for Meaning<'a> {
     }
 }
 
-/// The declarations of a type that are left.
+/// The declarations of a type, or the members of a list, that are left.
 #[derive(Clone, Copy)]
-pub(super) enum Declarations<'a> {
+pub(super) enum Members<'a> {
     Component(ComponentDecls<'a>),
     Instance(InstanceDecls<'a>),
     Module(ListOf<'a, ModuleDeclView<'a>>),
+    Arguments(ListOf<'a, (&'a str, ComponentExportKind, u32)>),
+    Exports(ListOf<'a, (NameView<'a>, ComponentExportKind, u32)>),
+    CoreArguments(ListOf<'a, (&'a str, ModuleArg)>),
+    CoreExports(ListOf<'a, (&'a str, ExportKind, u32)>),
 }
 
-impl<'a> Declarations<'a> {
-    /// Returns the number of bytes from the next declaration to the end of the section.
+impl<'a> Members<'a> {
+    /// Returns the number of bytes from the next one to the end of the section.
     pub fn bytes_left(&self) -> usize {
         match self {
             Self::Component(all) => all.bytes.len(),
             Self::Instance(all) => all.bytes.len(),
             Self::Module(all) => all.bytes.len(),
+            Self::Arguments(all) => all.bytes.len(),
+            Self::Exports(all) => all.bytes.len(),
+            Self::CoreArguments(all) => all.bytes.len(),
+            Self::CoreExports(all) => all.bytes.len(),
         }
     }
 
-    /// Returns the next declaration.
+    /// Passes over the next one, which is a declared type of this length.
+    pub fn pass(&mut self, len: usize) {
+        let (left, bytes) = match self {
+            Self::Component(all) => (&mut all.left, &mut all.bytes),
+            Self::Instance(all) => (&mut all.left, &mut all.bytes),
+            _ => return,
+        };
+        (*left, *bytes) = (left.saturating_sub(1), bytes.get(len..).unwrap_or_default());
+    }
+
+    /// Returns how each is read.
+    pub fn form(&self) -> Form {
+        match self {
+            Self::Component(_) => Form::InComponent,
+            Self::Instance(_) => Form::InInstance,
+            Self::Module(_) => Form::InModule,
+            Self::Arguments(_) => Form::Argument,
+            Self::Exports(_) => Form::Export,
+            Self::CoreArguments(_) => Form::CoreArgument,
+            Self::CoreExports(_) => Form::CoreExport,
+        }
+    }
+
+    /// Returns the next one.
     pub fn next(&mut self) -> Option<Meaning<'a>> {
         match self {
             Self::Component(all) => all.next().map(Meaning::from),
             Self::Instance(all) => all.next().map(Meaning::from),
             Self::Module(all) => all.next().map(Meaning::Module),
+            Self::Arguments(all) => all.next().map(Self::argument),
+            Self::Exports(all) => all.next().map(Self::export),
+            Self::CoreArguments(all) => all.next().map(Self::core_argument),
+            Self::CoreExports(all) => all.next().map(Self::core_export),
         }
+    }
+
+    pub fn argument((name, kind, index): (&'a str, ComponentExportKind, u32)) -> Meaning<'a> {
+        Meaning::Argument { name, kind, index }
+    }
+
+    pub fn export((name, kind, index): (NameView<'a>, ComponentExportKind, u32)) -> Meaning<'a> {
+        Meaning::Item(ItemView::Export { name, kind, index, ty: None })
+    }
+
+    pub fn core_argument((name, argument): (&'a str, ModuleArg)) -> Meaning<'a> {
+        Meaning::CoreArgument { name, argument }
+    }
+
+    pub fn core_export((name, kind, index): (&'a str, ExportKind, u32)) -> Meaning<'a> {
+        Meaning::CoreExport { name, kind, index }
     }
 }

@@ -8,6 +8,7 @@ mod definitions;
 mod faults;
 mod groups;
 mod indices;
+mod instances;
 mod listing;
 mod nested;
 mod nodes;

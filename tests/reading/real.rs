@@ -74,7 +74,7 @@ fn are_defined(bytes: &[u8], listing: &Listing) {
     }
     for space in Space::ALL {
         let index = next[space.number()];
-        assert_eq!(definitions.component().count(space), index.into());
+        assert_eq!(definitions.component().count(space), Some(index.into()));
         assert!(definitions.component().get(space, index).is_err());
     }
 }
