@@ -216,11 +216,21 @@ impl<'s, 'a> Writer<'s, 'a, '_> {
         ended
     }
 
-    fn document(&mut self, root: Scope<'s, 'a>) -> Written {
+    /// Finds what the text depends on as a whole.
+    fn find_all(&mut self, root: Scope<'s, 'a>) -> Written {
         self.find_units(root)?;
         self.find_instances()?;
         self.find_owners()?;
-        self.find_uses()?;
+        self.find_uses()
+    }
+
+    fn document(&mut self, root: Scope<'s, 'a>) -> Written {
+        if let Err(stop) = self.find_all(root) {
+            self.is_dry = false;
+            self.line("package root:component;\n")?;
+            self.open("world root")?;
+            return Err(stop);
+        }
         let own = self.units[0].package;
         match own {
             Some(package) => self.line(format_args!("package {package};"))?,

@@ -165,9 +165,11 @@ impl<'s, 'a> Writer<'s, 'a, '_> {
                 }
                 let Some(interface) = self.numbers.get(of) else { continue };
                 let Ok(Some(scope)) = of.exports() else { continue };
-                for (name, of) in exports(scope).filter(|(_, of)| of.space() == Some(Space::Types))
-                {
+                for (name, of) in exports(scope) {
                     self.step(of.place())?;
+                    if of.space() != Some(Space::Types) {
+                        continue;
+                    }
                     let (interface, name) = (Some(interface), name.name);
                     let owner = Owner { of, interface, unit, name };
                     self.own(is_export, owner)?;

@@ -111,11 +111,14 @@ impl<'s, 'a> Writer<'s, 'a, '_> {
             let instance = self.instances[at];
             self.local = Local::new(Context::of(&instance));
             let Ok(Some(scope)) = instance.of.exports() else { continue };
-            for (_, of) in exports(scope).filter(|(_, of)| of.space() == Some(Space::Types)) {
+            for (_, of) in exports(scope) {
+                self.step(of.place())?;
+                if of.space() != Some(Space::Types) {
+                    continue;
+                }
                 if let Ok(Found::Use(Owner { interface: Some(used), .. })) = self.find(of, true) {
                     edges.push_using((instance.interface, used))?;
                 }
-                self.step(of.place())?;
             }
         }
         sort(&mut edges);
