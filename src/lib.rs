@@ -158,6 +158,8 @@ pub mod tree;
 mod twins;
 #[cfg(feature = "walk")]
 pub mod view;
+#[cfg(feature = "wit")]
+pub mod wit;
 
 pub use self::core::*;
 pub use component::*;

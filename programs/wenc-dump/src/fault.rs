@@ -1,10 +1,10 @@
 //! Parts of a file that can't be read.
 
 use super::sizes::WrongSize;
-use super::wit::Unwritten;
 use super::words::Counted;
 use std::fmt::{self, Display};
 use std::io;
+use wenc::wit::Note;
 use wenc::{Cause, Format, Found, Part, ReadError};
 
 /// The exit status if memory ran out.
@@ -34,7 +34,7 @@ pub enum Kind {
     /// This many indices that are out of range.
     OutOfRange(usize),
     /// A part of a component's world that isn't written as WIT.
-    Unwritten(Unwritten),
+    Unwritten(Note),
 }
 
 impl From<Kind> for Fault {
@@ -107,7 +107,7 @@ impl Fault {
     /// Returns the exit status of the program.
     pub fn status(&self) -> u8 {
         match self.kind {
-            Kind::NoMemory | Kind::Unwritten(Unwritten::NoMemory) => NO_MEMORY,
+            Kind::NoMemory => NO_MEMORY,
             _ => 1,
         }
     }
@@ -131,7 +131,7 @@ impl Display for Fault {
             }
             Kind::OutOfRange(1) => f.write_str("1 index is out of range"),
             Kind::OutOfRange(count) => write!(f, "{count} indices are out of range"),
-            Kind::Unwritten(ref unwritten) => unwritten.fmt(f),
+            Kind::Unwritten(note) => note.fmt(f),
         }
     }
 }

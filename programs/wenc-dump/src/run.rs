@@ -9,7 +9,7 @@ use super::report::Report;
 use super::select::Selected;
 use super::text::{COLUMNS, Style, Text};
 use super::walk::{DEPTH, walk};
-use super::wit::Wit;
+use super::wit;
 use std::ffi::{OsStr, OsString};
 use std::fmt::{self, Write as _};
 use std::fs;
@@ -95,7 +95,7 @@ fn dump(
             }
         };
         let done = if options.wit {
-            wit(streams.out, file, streams.input, on_fault)
+            world(streams.out, file, streams.input, on_fault)
         } else {
             let format: &mut dyn Report = if options.json {
                 &mut Json::new(streams.out, options.hex)
@@ -135,7 +135,7 @@ fn bytes_of(file: &OsStr, input: &mut dyn Read) -> io::Result<Vec<u8>> {
 }
 
 /// Prints the world of a component, as WIT, and calls `on_fault` with each fault.
-fn wit(
+fn world(
     out: &mut dyn Write,
     file: &OsStr,
     input: &mut dyn Read,
@@ -153,13 +153,7 @@ fn wit(
         is_component &= (error.part, error.offset) != (Part::Header, 0);
         on_fault(&error.into());
     });
-    let (text, unwritten) = Wit::of(&definitions.instances(), bytes.len());
-    if is_component {
-        print(out, &text)?;
-    }
-    let unwritten = unwritten.into_iter().map(|part| Kind::Unwritten(part).into());
-    unwritten.for_each(|fault| on_fault(&fault));
-    Ok(())
+    if is_component { wit::print(out, &definitions, bytes.len(), on_fault) } else { Ok(()) }
 }
 
 /// Reports a file, with indices out of range if `has_check`, and calls `on_fault` with each fault.
