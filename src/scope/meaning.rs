@@ -14,7 +14,29 @@ use crate::{
 /// What a [`Definition`](super::Definition) is.
 ///
 /// Needs the feature `scope`.
-#[derive(Clone, Copy)]
+///
+/// ```
+/// use wenc::scope::{Definitions, Meaning};
+/// use wenc::tree::Space;
+/// use wenc::view::{ItemView, TypeView};
+///
+/// // a type of instances, which declares a resource, and an import of such an instance
+/// let component = b"\0asm\x0d\0\x01\0\x07\x09\x01\x42\x01\x04\0\x01r\x03\x01\
+///     \x0a\x06\x01\0\x01i\x05\0";
+/// let definitions = Definitions::new(component, 100)?;
+/// let instances = definitions.instances();
+/// let import = instances.component().get(Space::Instances, 0)?;
+/// assert!(matches!(import.meaning(), Meaning::Item(ItemView::Import { .. })));
+/// let ty = import.ty()?.expect("it has one");
+/// assert!(matches!(ty.meaning(), Meaning::Item(ItemView::Type(TypeView::Instance(_)))));
+/// for declared in ty.inner().expect("it has a scope").definitions() {
+///     let Meaning::Declared { name, .. } = declared.meaning() else { panic!("it is an export") };
+///     assert_eq!(name.name, "r");
+/// }
+/// # Ok::<(), Box<dyn std::error::Error>>(())
+/// ```
+#[derive(Clone, Copy, Debug, PartialEq, Eq)]
+#[non_exhaustive]
 pub enum Meaning<'a> {
     /// An item of a component; or a type, a core type, an alias or an import that a component type
     /// or an instance type declares, as that item.
