@@ -69,9 +69,7 @@ fn nothing_is_known_without_memory() {
     let bytes = component();
     for n in 0.. {
         let mut errors = calmly(Vec::new);
-        let read = || {
-            Definitions::past_faults(&bytes, 100, |error| calmly(|| errors.push(error)))
-        };
+        let read = || Definitions::past_faults(&bytes, 100, |error| calmly(|| errors.push(error)));
         let (definitions, is_refused) = refusing(n, read);
         let (instances, space) = (definitions.instances(), Space::Types);
         let scope = instances.component();
@@ -82,11 +80,10 @@ fn nothing_is_known_without_memory() {
         assert_eq!(errors, [Error::NoMemory.into()]);
         let fault = ScopeFault::Unread { place: 0, space, unread: 0 };
         assert_eq!((scope.count(space), scope.get(space, 0)), (None, Err(fault)));
-        assert_eq!(scope.export("e", Space::Instances), Err(ScopeFault::Unread {
-            place: 0,
-            space: Space::Instances,
-            unread: 0
-        }));
+        assert_eq!(
+            scope.export("e", Space::Instances),
+            Err(ScopeFault::Unread { place: 0, space: Space::Instances, unread: 0 })
+        );
         assert!(scope.definitions().next().is_none() && instances.at(9).is_none());
     }
 }
