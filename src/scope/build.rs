@@ -9,6 +9,7 @@ use crate::tree::Space;
 use crate::view::{CoreInstanceView, InstanceView, ItemView};
 use crate::{ReadError, Step, Unread, Walk};
 use alloc::vec::Vec;
+use core::cmp::Ordering;
 use core::ops::Range;
 
 impl<'a> Definitions<'a> {
@@ -409,7 +410,8 @@ impl Definitions<'_> {
         let (start, end) = (self.frames[scope as usize].start, self.end_of(scope));
         let (entries, links) = (&self.entries, &self.links);
         let of_scope = &mut self.order[start as usize..end as usize];
-        of_scope.sort_unstable_by_key(|number| (entries[*number as usize].rank(), *number));
+        let rank_of = |number| (entries[number as usize].rank(), number);
+        sort(of_scope, &|of, other| rank_of(of).cmp(&rank_of(other)));
         let from = self.names.len();
         self.frames[scope as usize].names = from as u32;
         for number in start..end {
@@ -419,9 +421,15 @@ impl Definitions<'_> {
                 self.names.push(number);
             }
         }
-        self.names[from..].sort_unstable_by_key(|number| {
-            let entry = &entries[*number as usize];
-            (links[entry.more as usize].name, entry.space.map(Space::number), *number)
-        });
+        let name_of = |number| {
+            let entry = &entries[number as usize];
+            (links[entry.more as usize].name, entry.space.map(Space::number), number)
+        };
+        sort(&mut self.names[from..], &|of, other| name_of(of).cmp(&name_of(other)));
     }
+}
+
+/// Sorts numbers. It is compiled once.
+fn sort(all: &mut [u32], compare: &dyn Fn(u32, u32) -> Ordering) {
+    all.sort_unstable_by(|of, other| compare(*of, *other));
 }

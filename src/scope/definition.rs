@@ -9,10 +9,33 @@ use core::fmt;
 use core::hash::{Hash, Hasher};
 use core::ops::Range;
 
-/// An item or a declaration, or an export or an argument in the list of an instance.
+/// An item or a declaration, or an export or an argument in the list of an instance, with the
+/// instance that it is reached through.
 ///
 /// Needs the feature `scope`.
+///
+/// ```
+/// use wenc::scope::Definitions;
+/// use wenc::tree::Space;
+///
+/// // a type of instances, which declares a resource, imports `a` and `b` of such instances, and an
+/// // alias of the resource of each
+/// let component = b"\0asm\x0d\0\x01\0\x07\x09\x01\x42\x01\x04\0\x01r\x03\x01\
+///     \x0a\x0b\x02\0\x01a\x05\0\0\x01b\x05\0\x06\x0b\x02\x03\0\0\x01r\x03\0\x01\x01r";
+/// let definitions = Definitions::new(component, 100)?;
+/// let instances = definitions.instances();
+/// let resource = |index| instances.component().resolve(Space::Types, index);
+///
+/// // they are declared once, but they are two
+/// let (of_a, of_b) = (resource(1)?, resource(2)?);
+/// assert_eq!((of_a.name(), of_a.range()), (Some("r"), of_b.range()));
+/// assert_ne!(of_a, of_b);
+/// assert_eq!(of_b.instance().and_then(|of| of.name()), Some("b"));
+/// assert_eq!(of_b.origin()?, of_b.instance());
+/// # Ok::<(), Box<dyn std::error::Error>>(())
+/// ```
 #[derive(Clone, Copy)]
+#[must_use]
 pub struct Definition<'s, 'a> {
     all: &'s Instances<'s, 'a>,
     at: At,
@@ -100,7 +123,7 @@ impl<'s, 'a> Definition<'s, 'a> {
     /// # Errors
     ///
     /// Those of [`Scope::get`]; [`ScopeFault::OutOfRange`] for the index of a type with spaces of
-    /// its own ([`Scope::Type`](crate::tree::Scope::Type)).
+    /// its own ([`Scope::Type`](crate::tree::Scope::Type)), in which its declarations have theirs.
     pub fn used(self, used: UsedIndex) -> Result<Self, ScopeFault> {
         let UsedIndex { space, scope, index, .. } = used;
         let place = self.place();
@@ -119,15 +142,17 @@ impl<'s, 'a> Definition<'s, 'a> {
         scope.get(space, index)
     }
 
-    /// Returns the instance through which it is reached; `None` if it is as it is written. What an
-    /// instance exports by its type is reached through it, too.
+    /// Returns the innermost instance through which it is reached; `None` if it is as it is written.
+    /// What an instance exports by its type is reached through it, too.
     pub fn instance(self) -> Option<Self> {
         let path = (self.at.path != NONE).then(|| self.all.path(self.at.path));
         path.map(|path| Self { at: path.instance, ..self })
     }
 
     /// Returns the import of the outermost component that it comes from, after resolving it: what
-    /// is imported, or exported by it at any depth. `None` if it is defined in the component.
+    /// is imported, or exported by it at any depth. `None` if it is defined in the component. The
+    /// names of the exports on the way are those of the resolved definition and, each by
+    /// [`instance`](Self::instance) of the one before, of its instances, up to the import.
     ///
     /// # Errors
     ///

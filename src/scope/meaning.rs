@@ -10,11 +10,34 @@ use crate::{
     Alias, ComponentExportKind, ComponentSectionId, ComponentTypeRef, ExportKind, ModuleArg,
     TypeBounds,
 };
+use core::fmt;
 
 /// What a [`Definition`](super::Definition) is.
 ///
 /// Needs the feature `scope`.
+///
+/// ```
+/// use wenc::scope::{Definitions, Meaning};
+/// use wenc::tree::Space;
+/// use wenc::view::{ItemView, TypeView};
+///
+/// // a type of instances, which declares a resource, and an import of such an instance
+/// let component = b"\0asm\x0d\0\x01\0\x07\x09\x01\x42\x01\x04\0\x01r\x03\x01\
+///     \x0a\x06\x01\0\x01i\x05\0";
+/// let definitions = Definitions::new(component, 100)?;
+/// let instances = definitions.instances();
+/// let import = instances.component().get(Space::Instances, 0)?;
+/// assert!(matches!(import.meaning(), Meaning::Item(ItemView::Import { .. })));
+/// let ty = import.ty()?.expect("it has one");
+/// assert!(matches!(ty.meaning(), Meaning::Item(ItemView::Type(TypeView::Instance(_)))));
+/// for declared in ty.inner().expect("it has a scope").definitions() {
+///     let Meaning::Declared { name, .. } = declared.meaning() else { panic!("it is an export") };
+///     assert_eq!(name.name, "r");
+/// }
+/// # Ok::<(), Box<dyn std::error::Error>>(())
+/// ```
 #[derive(Clone, Copy)]
+#[non_exhaustive]
 pub enum Meaning<'a> {
     /// An item of a component; or a type, a core type, an alias or an import that a component type
     /// or an instance type declares, as that item.
@@ -66,6 +89,68 @@ pub enum Meaning<'a> {
         index: u32,
     },
 }
+
+impl fmt::Debug for Meaning<'_> {
+    #[inline]
+    fn fmt(&self, f: &mut fmt::Formatter<'_>) -> fmt::Result {
+        match self {
+            Self::Item(item) => f.debug_tuple("Item").field(item).finish(),
+            Self::Declared { name, ty } => {
+                f.debug_struct("Declared").field("name", name).field("ty", ty).finish()
+            }
+            Self::Module(decl) => f.debug_tuple("Module").field(decl).finish(),
+            Self::Argument { name, kind, index } => {
+                let mut shown = f.debug_struct("Argument");
+                shown.field("name", name).field("kind", kind).field("index", index).finish()
+            }
+            Self::CoreArgument { name, argument } => {
+                let mut shown = f.debug_struct("CoreArgument");
+                shown.field("name", name).field("argument", argument).finish()
+            }
+            Self::Unread { section, count, is_known } => {
+                let mut shown = f.debug_struct("Unread");
+                shown.field("section", section).field("count", count);
+                shown.field("is_known", is_known).finish()
+            }
+            Self::CoreExport { name, kind, index } => {
+                let mut shown = f.debug_struct("CoreExport");
+                shown.field("name", name).field("kind", kind).field("index", index).finish()
+            }
+        }
+    }
+}
+
+impl PartialEq for Meaning<'_> {
+    #[inline]
+    fn eq(&self, other: &Self) -> bool {
+        match (*self, *other) {
+            (Self::Item(item), Self::Item(other)) => item == other,
+            (Self::Declared { name, ty }, Self::Declared { name: other, ty: of }) => {
+                (name, ty) == (other, of)
+            }
+            (Self::Module(decl), Self::Module(other)) => decl == other,
+            (
+                Self::Argument { name, kind, index },
+                Self::Argument { name: other, kind: of, index: at },
+            ) => (name, kind, index) == (other, of, at),
+            (
+                Self::CoreArgument { name, argument },
+                Self::CoreArgument { name: other, argument: of },
+            ) => (name, argument) == (other, of),
+            (
+                Self::Unread { section, count, is_known },
+                Self::Unread { section: other, count: of, is_known: known },
+            ) => (section, count, is_known) == (other, of, known),
+            (
+                Self::CoreExport { name, kind, index },
+                Self::CoreExport { name: other, kind: of, index: at },
+            ) => (name, kind, index) == (other, of, at),
+            _ => false,
+        }
+    }
+}
+
+impl Eq for Meaning<'_> {}
 
 /// What a definition is the same as.
 pub(super) enum Same<'a> {

@@ -3,6 +3,7 @@
 mod commands;
 mod core_sections;
 mod cursor;
+mod damaged;
 mod debug_names;
 mod definitions;
 mod faults;

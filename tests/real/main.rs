@@ -12,6 +12,7 @@ mod definitions;
 mod docs;
 mod encoded;
 mod examples;
+mod faults_of_scopes;
 mod features;
 mod indices;
 mod interfaces;
