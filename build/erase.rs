@@ -6,23 +6,27 @@
 //! - *leaves out*: clauses (`requires`, `ensures`), `ghost` items and fields with their comments,
 //!   the examples of documentation (they are Rattle) with the sentence before one that ends in a
 //!   colon, allocators among parameters and what stands for these, the attributes `tactic`, `cycle`
-//!   and `error`, `Drop` among derives and bounds, and `use thiserror::Error`;
-//! - *renames*: the roots of paths, so that `crate::` and `wenc_base::` are modules of
-//!   `crate::proved`, and `std::` is `crate::shim`, which has what the sources use of Rattle's
-//!   library; other allocators to `Global`; `Clone` and `clone`, which can fail in Rattle, to
-//!   `TryClone` and `try_clone`; the `Iterator` of an `impl` to `Members`, which has no more than
-//!   Rattle's; the calls in [`ALLOCATING`] and [`MAKING`], by appending `_using`;
-//!   `derive_where` to `derive`; `pub` of the methods and fields that aren't for users
+//!   and `error`, and `Drop` among derives;
+//! - *renames*: `crate`, to the module of `crate::proved`; other allocators to the type `Handed`;
+//!   `clone`, which can fail in Rattle, to `try_clone`; the `Iterator` of an `impl` to `Members`,
+//!   which has no more than Rattle's; the calls in [`ALLOCATING`] and [`MAKING`], by appending
+//!   `_using`; `derive_where` to `derive`; `pub` of the methods and fields that aren't for users
 //!   ([`NARROWED`]) to `pub(crate)`;
-//! - *adds*: the names that are in scope by default, before a file's first item; the derives that
+//! - *adds*: the import of the shim's prelude, before a file's first item; the derives that
 //!   users of Rust expect of a type ([`known::TREES`], [`known::DERIVED_TOO`]); `Display` and
 //!   `Error` after an enum that derives `Error`; `pub` to `main`; `pub(crate)` to the functions in
 //!   [`WIDENED`]; `#[inline]` to the functions in [`INLINED`], but `#[inline(never)]` to what copies
 //!   the trees in [`APART`]; conditions to the items that exist only with a feature
 //!   ([`with_conditions`]);
-//! - *refuses*: everything else that it doesn't know, such as a module with a body, and a `Clone`
-//!   or a `clone` that the source defines itself. No crate is better than one that does something
-//!   else than was proved.
+//! - *refuses*: a change between the brackets of a macro, which may do anything with a token; an
+//!   allocator's name that is no type; an import that gives a name or brings all; a name that the
+//!   eraser brings in; and everything else that it doesn't know, such as a module with a body. No
+//!   crate is better than one that does something else than was proved.
+//!
+//! All other names stay, and mean what they mean in the shim's prelude, which has Rattle's names
+//! for `std`, the other crates, `Clone`, `Drop`, `format` and so on. No others are in scope, since
+//! `crates.rs` says `no_implicit_prelude`: not what a name means in Rust, nor the methods of traits
+//! that only Rust's types have. `gate/tricks` tries to get by all this.
 //!
 //! `gate/erased` compares what is left without clauses and ghost items with what the prover reads
 //! as code. `tests/honest` compares that with the Rust, with a lexer of its own.
@@ -42,19 +46,17 @@ mod lexer;
 
 #[allow(unused_imports, reason = "the build script has crates of features")]
 pub use conditions::{TREE, WALK, is_owned};
-use known::{
-    ALLOCATING, APART, HANDED, INLINED, KEYWORDS, MAKING, NARROWED, OWNED, PLAIN, WIDENED,
-};
+use known::{ALLOCATING, APART, BROUGHT, INLINED, KEYWORDS, MAKING, NARROWED, OWNED, WIDENED};
 use lexer::{Kind, Token, tokens};
 use std::borrow::Cow;
 
 /// The number of a line, and what is wrong in it.
 pub type Refused = (usize, &'static str);
 
-/// Erases a file of the crate `name`. `crates` are all crates of its folder.
-pub fn erase(name: &str, crates: &[&str], source: &str) -> Result<String, Refused> {
+/// Erases a file of the crate `name`.
+pub fn erase(name: &str, source: &str) -> Result<String, Refused> {
     let tokens = tokens(source)?;
-    let mut eraser = Eraser::new(name, crates, &tokens);
+    let mut eraser = Eraser::new(name, &tokens);
     eraser.run()?;
     Ok(eraser.finish())
 }
@@ -78,15 +80,15 @@ pub fn without_ghosts(source: &str) -> Result<String, Refused> {
 /// which are parted from the others.
 pub fn with_conditions(rust: &str) -> Result<String, Refused> {
     let tokens = tokens(rust)?;
-    let mut eraser = Eraser::new("", &[], &tokens);
+    let mut eraser = Eraser::new("", &tokens);
     eraser.conditions()?;
+    eraser.keeps_macros()?;
     Ok(eraser.finish())
 }
 
 /// A file that is being erased.
 struct Eraser<'a> {
     name: &'a str,
-    crates: &'a [&'a str],
     tokens: &'a [Token<'a>],
     /// The indices of the tokens other than blanks, comments and ghost ones. Each `i` below indexes
     /// this.
@@ -96,12 +98,11 @@ struct Eraser<'a> {
 }
 
 impl<'a> Eraser<'a> {
-    fn new(name: &'a str, crates: &'a [&'a str], tokens: &'a [Token<'a>]) -> Self {
+    fn new(name: &'a str, tokens: &'a [Token<'a>]) -> Self {
         let is_code =
             |t: &usize| !matches!(tokens[*t].kind, Kind::Space | Kind::Comment | Kind::Ghost);
         Eraser {
             name,
-            crates,
             tokens,
             code: (0..tokens.len()).filter(is_code).collect(),
             becomes: tokens.iter().map(|token| Cow::Borrowed(token.text)).collect(),
@@ -167,7 +168,7 @@ impl<'a> Eraser<'a> {
             }
         }
         self.examples()?;
-        self.allocators();
+        self.allocators()?;
         let mut i = 0;
         while i < self.code.len() {
             let is_left_out = self.becomes[self.code[i]].is_empty();
@@ -180,6 +181,7 @@ impl<'a> Eraser<'a> {
                 }
             };
         }
+        self.keeps_macros()?;
         self.bring_prelude();
         Ok(())
     }
@@ -187,48 +189,33 @@ impl<'a> Eraser<'a> {
     /// Erases a token outside of attributes.
     fn token(&mut self, i: usize) -> Result<(), Refused> {
         match self.at(i) {
-            "Drop" => self.bound(i)?,
             "fn" if self.at(i + 1) == "main" => self.put(i, "pub fn"),
             "fn" if self.is_widened(i) => self.put(i, "pub(crate) fn"),
             word @ ("fn" | "pub") if self.is_inlined(i) => {
                 let attribute = if self.is_apart(i) { "#[inline(never)]" } else { "#[inline]" };
                 self.put(i, format!("{attribute} {word}"));
             }
-            "mod" if self.is_taken(self.at(i + 1)) => {
-                return Err((self.line(i), "a module with the name of a crate"));
-            }
             "mod" if self.at(i + 2) != ";" => {
                 return Err((self.line(i), "a module that is no file"));
             }
-            "extern" if self.at(i + 1) != "crate" => {
-                return Err((self.line(i), "an `extern` that is not known"));
-            }
+            "extern" => return Err((self.line(i), "an `extern`")),
             "unsafe" => return Err((self.line(i), "an `unsafe`")),
             "pub" if self.is_narrowed(i) => self.put(i, "pub(crate)"),
             "Iterator" if self.at(i + 1) == "for" => self.put(i, "crate::shim::iter::Members"),
-            "Clone" if self.is_bound(i) || self.at(i + 1) == "for" => self.put(i, "TryClone"),
             "clone" if self.is_method(i) => self.put(i, "try_clone"),
-            "Clone" => return Err((self.line(i), "a `Clone` that is no bound or `impl`")),
-            "clone" => return Err((self.line(i), "a `clone` that is no method")),
-            call if self.is_allocating(i) => self.put(i, format!("{call}_using")),
-            "!" if self.is_word(i.wrapping_sub(1)) => self.macro_call(i)?,
-            "use" if self.at(i + 1) == "thiserror" => {
-                if !self.stands(i, "use thiserror : : Error ;") {
-                    return Err((self.line(i), "a use of `thiserror` that is not known"));
-                }
-                self.leave_out(i..i + 6);
+            word if self.goes_on(i) && (word == "clone" || ALLOCATING.contains(&word)) => {
+                return Err((self.line(i), "a method that is named by its path"));
             }
+            call if self.is_allocating(i) => self.put(i, format!("{call}_using")),
+            word if word.ends_with("_using") || BROUGHT.contains(&word) => {
+                return Err((self.line(i), "a name that the eraser brings in"));
+            }
+            "use" => self.import(i)?,
+            "crate" => self.root(i)?,
             ":" if self.at(i + 1) == ":" => self.path(i)?,
-            word if self.is_taken(word) => self.root(i)?,
             _ => {}
         }
         Ok(())
-    }
-
-    /// Returns whether the word is a bound.
-    fn is_bound(&self, i: usize) -> bool {
-        let is_led = self.before(i, 1) == "+" || self.before(i, 1) == ":" && !self.goes_on(i);
-        is_led && ["+", ",", ">", ")", "{"].contains(&self.at(i + 1))
     }
 
     /// Returns whether the word is the name of a method that is called or defined.
@@ -303,12 +290,6 @@ impl<'a> Eraser<'a> {
         ""
     }
 
-    /// Returns whether a path may begin with this name.
-    fn is_taken(&self, word: &str) -> bool {
-        ["crate", "std", "core", "alloc", "thiserror"].contains(&word)
-            || self.crates.contains(&word)
-    }
-
     /// Leaves out the examples of documentation, with the sentence before one that ends in a colon.
     fn examples(&mut self) -> Result<(), Refused> {
         let mut begun = None;
@@ -379,48 +360,50 @@ impl<'a> Eraser<'a> {
         if is_inside { Ok(()) } else { Err((self.line(i), "a path that begins with `::`")) }
     }
 
-    /// Erases a word that may be the root of a path.
+    /// Erases the root of a path in this crate.
     fn root(&mut self, i: usize) -> Result<(), Refused> {
-        let word = self.at(i);
         if self.stands(i.wrapping_sub(1), "( crate )") {
             self.put(i, format!("in crate::proved::{}", self.name));
-        } else if self.stands(i + 1, ": :") && !self.goes_on(i) {
-            let becomes = match word {
-                "crate" => format!("crate::proved::{}", self.name),
-                "std" => "crate::shim".into(),
-                _ if self.crates.contains(&word) => format!("crate::proved::{word}"),
-                _ => return Err((self.line(i), "a path that begins with a crate of the kit")),
-            };
-            self.put(i, becomes);
-        } else if word == "crate" || self.before(i, 1) == "use" || self.before(i, 1) == "extern" {
-            return Err((self.line(i), "a crate that is no path's root"));
+        } else if self.stands(i + 1, ": :") {
+            self.put(i, format!("crate::proved::{}", self.name));
+        } else {
+            return Err((self.line(i), "a `crate` that is no path's root"));
         }
         Ok(())
     }
 
-    /// Erases a bound `Drop`, which every type of Rust has.
-    fn bound(&mut self, i: usize) -> Result<(), Refused> {
-        match (self.before(i, 1), self.at(i + 1)) {
-            ("+", "," | ">" | "{" | "+" | ")") => self.leave_out(i - 1..i + 1),
-            (":", "," | ">") if self.before(i, 2) != ":" => self.leave_out(i - 1..i + 1),
-            _ => return Err((self.line(i), "a use of `Drop` that is no bound")),
+    /// Refuses an import of all names, and one that gives a name.
+    fn import(&self, i: usize) -> Result<(), Refused> {
+        let mut names = (i..self.code.len()).take_while(|j| self.at(*j) != ";");
+        match names.find(|j| ["*", "as"].contains(&self.at(*j))) {
+            Some(j) => Err((self.line(j), "an import without its name")),
+            None => Ok(()),
         }
-        Ok(())
     }
 
-    /// Erases a macro that is called or defined, whose `!` is here.
-    fn macro_call(&mut self, i: usize) -> Result<(), Refused> {
-        let (name, open) = (self.before(i, 1), self.at(i + 1));
-        if !["(", "[", "{"].contains(&open) {
-            let is_operator = open == "=" || KEYWORDS.contains(&name);
-            let is_known = is_operator || name == "macro_rules";
-            return if is_known { Ok(()) } else { Err((self.line(i), "a `!` that is not known")) };
-        }
-        let is_own = (0..i).any(|j| self.stands(j, "macro_rules !") && self.at(j + 2) == name);
-        if self.at(i + 2) == "in" && HANDED.contains(&name) {
-            self.put(i - 1, format!("crate::shim::{name}"));
-        } else if !is_own && ![&KEYWORDS[..], &PLAIN].concat().contains(&name) {
-            return Err((self.line(i), "a macro that is not known"));
+    /// Refuses a file if something becomes something else between the brackets of a macro, which
+    /// may do with each token as it likes, or if there is what may be a token for it or not.
+    fn keeps_macros(&self) -> Result<(), Refused> {
+        for i in (0..self.code.len()).filter(|i| self.at(*i) == "!") {
+            let open = if self.before(i, 1) == "macro_rules" { i + 2 } else { i + 1 };
+            let is_called =
+                self.is_word(i.wrapping_sub(1)) && !KEYWORDS.contains(&self.before(i, 1));
+            if !is_called || !["(", "[", "{"].contains(&self.at(open)) {
+                continue;
+            }
+            let end = self.code[self.close(open)? - 1];
+            for t in self.code[open]..end {
+                let (token, becomes) = (&self.tokens[t], &self.becomes[t]);
+                let is_kept = match token.kind {
+                    Kind::Space => true,
+                    Kind::Comment => !["///", "//!"].iter().any(|d| token.text.starts_with(d)),
+                    Kind::Ghost => false,
+                    _ => becomes == token.text,
+                };
+                if !is_kept {
+                    return Err((token.line, "a change in what a macro is passed"));
+                }
+            }
         }
         Ok(())
     }

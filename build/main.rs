@@ -30,13 +30,11 @@ const PROGRAMS: [&str; 2] = ["wenc", "rebuild"];
 /// another crate defines them.
 const TESTS: [&str; 4] = ["proved_parts", "proved_lists", "proved_tests", "proved_scripts"];
 
-/// The crate that `src/proved` replaces.
-const BY_HAND: [&str; 1] = ["hex"];
-
 /// The lints to allow: the sources have checks of their own, not all of their calls are used by the
 /// facade, some names are for contracts only, and erasing leaves empty lines and braces.
 const ALLOWED: &str = "#[allow(clippy::all, dead_code, missing_docs, unused_braces)]\n\
      #[allow(unused_imports, unused_variables)]\n\
+     #[no_implicit_prelude]\n\
      #[cfg_attr(not(test), warn(clippy::disallowed_methods))]\n";
 
 fn main() {
@@ -53,8 +51,9 @@ fn main() {
 /// Runs as a build script.
 fn build() {
     let package = PathBuf::from(variable("CARGO_MANIFEST_DIR"));
-    let top = package.ancestors().find(|folder| folder.join("crates").is_dir());
-    let top = top.expect("the sources are above the package");
+    // The library's package is the repository, and the others are two folders below.
+    let above = if variable("CARGO_PKG_NAME") == "wenc" { 0 } else { 2 };
+    let top = package.ancestors().nth(above).expect("the package is in the repository");
     println!("cargo::rerun-if-changed={}", top.join("build").display());
     for name in parts().iter().flat_map(|(names, _)| *names) {
         println!("cargo::rerun-if-changed={}", top.join("crates").join(name).join("src").display());
@@ -114,8 +113,6 @@ fn write_code(sources: &Path, out: &Path) {
 /// Erases all crates of a folder into another folder.
 fn erase_all(sources: &Path, out: &Path) {
     let parts = parts();
-    let known: Vec<&str> =
-        parts.iter().flat_map(|(names, _)| *names).chain(&BY_HAND).copied().collect();
     let _ = fs::remove_dir_all(out);
     let mut declared = String::new();
     for (names, condition) in parts {
@@ -124,7 +121,7 @@ fn erase_all(sources: &Path, out: &Path) {
         for name in names {
             let source = sources.join(name).join("src");
             make(&source, &out.join(name), "rs", &|module, text| {
-                let rust = erase::erase(name, &known, text)?;
+                let rust = erase::erase(name, text)?;
                 let is_parted = is_parted && !erase::is_owned(module);
                 if is_parted { erase::with_conditions(&rust) } else { Ok(rust) }
             });

@@ -48,11 +48,8 @@ pub const INLINED: [&str; 29] = [
 /// take long to compile into each function that copies an item.
 pub const APART: [&str; 4] = ["CanonTree", "CoreInstanceTree", "CoreTypeTree", "InstanceTree"];
 
-/// Macros that take an allocator after `in`, and that the shim defines.
-pub const HANDED: [&str; 2] = ["format", "vec"];
-
-/// Macros with the same meaning in Rattle and in Rust.
-pub const PLAIN: [&str; 5] = ["concat", "matches", "unreachable", "write", "writeln"];
+/// Names that the eraser writes in place of others, beside those that end in `_using`.
+pub const BROUGHT: [&str; 3] = ["Members", "TryClone", "try_clone"];
 
 /// Words, other than names, that may precede a `!` or a path.
 pub const KEYWORDS: [&str; 15] = [

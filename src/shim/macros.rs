@@ -12,7 +12,7 @@ macro_rules! format_in {
 macro_rules! vec_in {
     (in $alloc:expr; $($value:expr),* $(,)?) => {{
         use crate::shim::iter::CollectUsing;
-        [$($value),*].into_iter().collect_using($alloc)
+        ::core::iter::IntoIterator::into_iter([$($value),*]).collect_using($alloc)
     }};
 }
 

@@ -16,20 +16,55 @@ mod macros;
 pub mod string;
 pub mod vec;
 
-/// The names that are in scope by default.
+/// The names that are in scope by default in the proved sources, in place of Rust's: no other name
+/// is in scope there that a source doesn't declare or import. So a trait that only Rust's types have
+/// ([`NoTrait`]) has no method there.
+#[allow(unused_imports, reason = "some are for parts that have a condition")]
 pub mod prelude {
-    pub use super::alloc::TryClone;
+    #[cfg(not(any(script, test)))]
+    pub(crate) use super::NoTrait as Ord;
+    pub(crate) use super::alloc::TryClone as Clone;
     #[cfg(any(feature = "tree", script, test))]
-    pub use super::boxed::Box;
-    pub use super::iter::CollectUsing;
+    pub(crate) use super::boxed::Box;
     #[cfg(any(script, test))]
-    pub use super::process::HostRuntime;
-    pub use super::str;
-    pub use super::string::{String, StringUsing};
-    pub use super::vec::{Vec, VecUsing};
+    pub(crate) use super::cmp::Ord;
+    pub(crate) use super::derives::*;
+    pub(crate) use super::iter::CollectUsing;
+    pub(crate) use super::macros::format;
+    #[cfg(test)]
+    pub(crate) use super::macros::vec;
+    pub(crate) use super::marker::Drop;
+    #[cfg(any(script, test))]
+    pub(crate) use super::process::HostRuntime;
+    pub(crate) use super::str;
+    pub(crate) use super::string::{String, StringUsing};
+    pub(crate) use super::vec::{Vec, VecUsing};
+    pub(crate) use super::{NoTrait as Debug, NoTrait as Hash};
+    pub(crate) use super::{NoTrait as PartialEq, NoTrait as PartialOrd};
     #[cfg(all(test, not(script)))]
-    pub use crate::proved::for_tests::FromArray;
+    pub(crate) use crate::proved::for_tests::FromArray;
+    pub(crate) use crate::proved::*;
+    pub(crate) use crate::shim::{self as std, thiserror};
+    pub(crate) use core::convert::{From, Into, TryFrom};
+    pub(crate) use core::iter::{IntoIterator, Iterator};
+    pub(crate) use core::marker::{Copy, Sized};
+    pub(crate) use core::mem::drop;
+    pub(crate) use core::option::Option::{self, None, Some};
+    pub(crate) use core::result::Result::{self, Err, Ok};
+    pub(crate) use core::{concat, matches, unreachable, write, writeln};
 }
+
+mod derives {
+    //! The derives, without the traits of their names.
+
+    pub use core::clone::Clone;
+    pub use core::cmp::{Eq, Ord, PartialEq, PartialOrd};
+    pub use core::fmt::Debug;
+    pub use core::hash::Hash;
+}
+
+/// The name of a trait that isn't in scope in the proved sources.
+pub enum NoTrait {}
 
 pub mod marker {
     //! Markers.
@@ -38,6 +73,42 @@ pub mod marker {
 
     /// A type's model in contracts, of which nothing is left here.
     pub trait Model {}
+
+    /// Rattle's bound of what can be dropped, as all can in Rust.
+    pub trait Drop {}
+
+    impl<T: ?Sized> Drop for T {}
+}
+
+pub mod thiserror {
+    //! The kit's crate, for the sources' imports: the eraser writes what it derives.
+
+    pub use super::NoTrait as Error;
+}
+
+#[cfg(any(script, test))]
+pub mod cmp {
+    //! Comparison.
+
+    pub use core::cmp::Ordering;
+
+    /// Rattle's `Ord`, of what the sources compare by its methods: Rust's, which more types have
+    /// than theirs, would have its methods for all of these.
+    pub trait Ord: Sized {
+        /// Compares the two.
+        fn cmp(&self, other: &Self) -> Ordering;
+
+        /// Returns the lesser one, of equal ones the first.
+        fn min(self, other: Self) -> Self {
+            if other.cmp(&self) == Ordering::Less { other } else { self }
+        }
+    }
+
+    impl Ord for usize {
+        fn cmp(&self, other: &Self) -> Ordering {
+            core::cmp::Ord::cmp(self, other)
+        }
+    }
 }
 
 pub mod str {
@@ -57,8 +128,4 @@ pub mod io {
 pub mod process;
 
 #[cfg(test)]
-pub use core::{cmp, hash};
-
-pub(crate) use macros::format;
-#[cfg(test)]
-pub(crate) use macros::vec;
+pub use core::hash;

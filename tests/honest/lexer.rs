@@ -1,23 +1,28 @@
 //! A lexer of its own, that knows nothing of the eraser's.
 
-/// A token: the line that it begins in, and its text.
+/// A token: the line that it begins in, its text, and whether documentation stands before it.
 #[derive(Clone, Debug, PartialEq, Eq)]
 pub struct Token {
     pub line: usize,
     pub text: String,
+    pub is_documented: bool,
 }
 
 /// The tokens of a text without its comments. A `::` is one.
 pub fn lex(text: &str) -> Vec<Token> {
     let chars: Vec<char> = text.chars().collect();
     let (mut tokens, mut at, mut line) = (Vec::new(), 0, 1);
+    let mut is_documented = false;
     while at < chars.len() {
         let begin = at;
         at = end(&chars, begin);
         let text: String = chars[begin..at].iter().collect();
         let lines = text.matches('\n').count();
         if !text.trim().is_empty() && !text.starts_with("//") {
-            tokens.push(Token { line, text });
+            tokens.push(Token { line, text, is_documented });
+            is_documented = false;
+        } else {
+            is_documented |= text.starts_with("///") || text.starts_with("//!");
         }
         line += lines;
     }

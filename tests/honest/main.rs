@@ -85,25 +85,30 @@ fn erased_sources_are_the_sources() {
     assert_eq!(counts["tree that is copied out of line"], APART.len());
 }
 
-/// Sources whose words mean something else in Rust where they stay or get another name, and what
-/// they would become.
-const UNKNOWN: [(&str, &str); 16] = [
-    ("fn f(x: std::A) {}", "fn f(x: std::A) {}"),
-    ("fn f<T: std::A>() {}", "fn f<T: std::A>() {}"),
-    ("fn f() { let x: wenc_base::A; }", "fn f() { let x: wenc_base::A; }"),
-    ("struct S { a: crate::A }", "struct S { a: crate::A }"),
-    ("fn f(x: core::A) {}", "fn f(x: core::A) {}"),
-    ("use alloc::vec;", "use alloc::vec;"),
-    ("use thiserror::Display;", "use thiserror::Display;"),
+/// Sources of which an edit, or the same words, would mean something else in Rust, and what the
+/// eraser would make of each if it edited it.
+const UNKNOWN: [(&str, &str); 21] = [
     ("mod inner { fn f() {} }", "mod inner { fn f() {} }"),
     ("pub mod inner {}", "pub mod inner {}"),
-    ("enum Op { Clone, Copy }", "enum Op { TryClone, Copy }"),
-    ("enum Op { Copy, Clone }", "enum Op { Copy, Clone }"),
-    ("fn f() { Clone::clone(x) }", "fn f() { TryClone::try_clone(x) }"),
-    ("use a::Clone;", "use a::TryClone;"),
-    ("struct S { clone: u8 }", "struct S { try_clone: u8 }"),
+    ("use ::std::A;", "use ::std::A;"),
+    ("fn f(x: ::core::A) {}", "fn f(x: ::core::A) {}"),
+    ("use a::*;", "use a::*;"),
+    ("use a::{*};", "use a::{*};"),
+    ("fn try_clone() {}", "fn try_clone() {}"),
+    ("fn f() { x.push_using(1) }", "fn f() { x.push_using(1) }"),
+    ("struct TryClone;", "struct TryClone;"),
     ("fn f() { s.clone }", "fn f() { s.try_clone }"),
-    ("fn f() { clone(s) }", "fn f() { clone(s) }"),
+    ("fn f() { clone(s) }", "fn f() { try_clone(s) }"),
+    ("fn f() { m!(x.clone()) }", "fn f() { m!(x.try_clone()) }"),
+    ("fn f() { m!(crate::x) }", "fn f() { m!(crate::proved::named::x) }"),
+    ("fn f() { m!(#[tactic(auto)] x) }", "fn f() { m!(x) }"),
+    ("fn f() { m!(\n/// a\nx) }", "fn f() { m!(\n\nx) }"),
+    ("macro_rules! m { (crate::x) => {} }", "macro_rules! m { (crate::proved::named::x) => {} }"),
+    ("fn f<A: Allocator>() { [B, A, B] }", "fn f() { [B, B] }"),
+    ("fn f<A: Allocator>() { g(A) }", "fn f() { g(crate::shim::alloc::Handed) }"),
+    ("fn f<A: Allocator>() { m!(S::<A>::x) }", "fn f() { m!(S::x) }"),
+    ("fn f<A: Allocator>() { S { x: B<C, A, D> } }", "fn f() { S { x: B<C, D> } }"),
+    ("fn f<A: Allocator>(x: [u8; g(A)]) {}", "fn f(x: [u8; g(crate::shim::alloc::Handed)]) {}"),
 ];
 
 #[test]
@@ -116,19 +121,54 @@ fn what_means_something_else_in_rust_is_found() {
         assert!(read(source, rust).is_err(), "{source}");
     }
     for (source, rust) in [
-        ("fn f(x: std::A) {}", "fn f(x: crate::shim::A) {}"),
-        ("fn f<T: wenc_base::A>() {}", "fn f<T: crate::proved::wenc_base::A>() {}"),
+        ("fn f(x: std::A) {}", "fn f(x: std::A) {}"),
         ("struct S { a: crate::A }", "struct S { a: crate::proved::named::A }"),
-        ("mod inner; use self::core::A;", "mod inner; use self::core::A;"),
-        (
-            "fn f<T: Clone>() where A: B + Clone, {}",
-            "fn f<T: TryClone>() where A: B + TryClone, {}",
-        ),
-        ("impl<O: Copy> Clone for S<O> {}", "impl<O: Copy> TryClone for S<O> {}"),
+        ("fn f<T: Clone + Drop>() {}", "fn f<T: Clone + Drop>() {}"),
         ("fn clone() { s.clone() }", "fn try_clone() { s.try_clone() }"),
+        ("fn f() { m!(x, y) }", "fn f() { m!(x, y) }"),
+        ("/// a\nm!(x);", "/// a\nm!(x);"),
+        (
+            "fn f<A: Allocator>(a: A, x: [S<A>; 2]) { let x: T<u8, A> = S::<A>::x(); }",
+            "fn f(a: crate::shim::alloc::Handed, x: [S; 2]) { let x: T<u8> = S::x(); }",
+        ),
     ] {
         assert_eq!(read(source, rust), Ok(()), "{source}");
     }
+}
+
+/// What is written around the Rust: a module for each crate, in which no name is in scope but those
+/// of the shim's prelude.
+#[test]
+fn nothing_is_around_the_crates() {
+    let walk = "any(feature = \"walk\", script, test)";
+    let tree = "any(feature = \"tree\", script, test)";
+    let (programs, tests) = ("any(script, test)", "all(test, not(script))");
+    let crates = [
+        ("wenc_base wenc_parts wenc_types wenc_canon wenc_sections wenc_builder", ""),
+        ("wenc_read wenc_view wenc_list", walk),
+        ("wenc_decode wasm_encoder", tree),
+        ("wenc rebuild", programs),
+        ("proved_parts proved_lists proved_tests proved_scripts", tests),
+    ];
+    let mut wanted = String::new();
+    for (names, condition) in crates {
+        for name in names.split(' ') {
+            if !condition.is_empty() {
+                wanted += &format!("#[cfg({condition})] ");
+            }
+            let file = if name == "rebuild" { "main" } else { "lib" };
+            wanted += &format!(
+                "#[allow(clippy::all, dead_code, missing_docs, unused_braces)]
+                #[allow(unused_imports, unused_variables)]
+                #[no_implicit_prelude]
+                #[cfg_attr(not(test), warn(clippy::disallowed_methods))]
+                #[path = \"{name}/{file}.rs\"] pub mod {name};"
+            );
+        }
+    }
+    let declared = fs::read_to_string(erased::folder().join("crates.rs")).expect("it is there");
+    let texts = |text: &str| lex(text).into_iter().map(|token| token.text).collect::<Vec<_>>();
+    assert_eq!(texts(&declared), texts(&wanted));
 }
 
 /// In one file in five, if it is short: each token left out, changed, moved to the next line with
@@ -149,7 +189,7 @@ fn each_token_counts() {
                 |new: &[Token]| compare(names, &old, new, HAS_LINES, &mut counts).is_err();
             let token = new.remove(at);
             assert!(is_found(&new), "{place}: left out");
-            new.insert(at, Token { line: token.line, text: format!("{}x", token.text) });
+            new.insert(at, Token { text: format!("{}x", token.text), ..token.clone() });
             assert!(is_found(&new), "{place}: changed");
             new.insert(at, token);
             assert!(is_found(&new), "{place}: something put in");

@@ -8,7 +8,7 @@ use super::lexer::{Token, lex};
 use std::collections::BTreeMap;
 
 /// The ways, each of which some source takes.
-pub const WAYS: [&str; 31] = [
+pub const WAYS: [&str; 26] = [
     "kept",
     "prelude",
     "attribute of the prover left out",
@@ -21,18 +21,13 @@ pub const WAYS: [&str; 31] = [
     "derive_where is derive",
     "text of an error left out",
     "Display and Error of an error",
-    "bound Drop left out",
-    "use of thiserror left out",
     "root of the crate",
-    "root of std",
-    "root of another crate",
     "pub(crate)",
     "iterator of members",
     "refusable clone",
     "allocator is Global",
     "method that is handed an allocator",
     "function that is handed an allocator",
-    "macro that is handed an allocator",
     "main is pub",
     "function that the facade calls",
     "function that is inlined",
@@ -41,12 +36,6 @@ pub const WAYS: [&str; 31] = [
     "item of a feature",
     "import of a feature",
 ];
-
-/// Whether it is one of the crates.
-fn is_crate(name: &str) -> bool {
-    let is_known = ["hex", "rebuild", "wasm_encoder"].contains(&name);
-    is_known || name.starts_with("wenc") || name.starts_with("proved_")
-}
 
 /// The crates in which items have conditions of their own.
 const PARTED: [&str; 9] = [
@@ -100,6 +89,8 @@ pub struct Old {
     tokens: Vec<Token>,
     /// The names of allocators, which become `Global` where they are left.
     allocators: Vec<String>,
+    /// The first of their names that stands where no type does.
+    misplaced: Option<Token>,
 }
 
 impl Old {
@@ -107,8 +98,9 @@ impl Old {
     pub fn new(source: &str, counts: &mut BTreeMap<&'static str, usize>) -> Old {
         let mut tokens = lex(source);
         let allocators = allocators::names(&tokens);
+        let misplaced = allocators::misplaced(&tokens, &allocators).cloned();
         allocators::leave_out(&mut tokens, &allocators, counts);
-        Old { tokens, allocators }
+        Old { tokens, allocators, misplaced }
     }
 }
 
@@ -121,6 +113,9 @@ pub fn compare(
     has_lines: bool,
     counts: &mut BTreeMap<&'static str, usize>,
 ) -> Result<(), String> {
+    if let Some(name) = &old.misplaced {
+        return Err(format!("{}: the allocator {} is no type here", name.line, name.text));
+    }
     let has_conditions = has_conditions(crate_name, module);
     let mut source = Source {
         crate_name,
@@ -129,7 +124,7 @@ pub fn compare(
         has_conditions,
         ..Source::default()
     };
-    let mut rest = new;
+    let (mut rest, mut begin) = (new, 0);
     if !rest.is_empty() {
         // It stands in the line of what documents the first item.
         let line = has_lines.then_some(rest[0].line);
@@ -141,6 +136,18 @@ pub fn compare(
             return Err(format!("{}: {:?} is {why}", first.line, first.text));
         }
         let line = has_lines.then_some(first.line);
+        if let Some(end) = source.end_of_macro().filter(|_| source.at >= source.end_of_macro) {
+            (begin, source.end_of_macro) = (source.at, end);
+        }
+        if source.at < source.end_of_macro {
+            let Step { way, old, new } = source.step();
+            if way != "kept" || first.is_documented && source.at > begin {
+                return Err(format!("{}: a macro is passed something else", first.line));
+            }
+            take(way, line, &new, &mut rest).map_err(|why| format!("{}: {why}", first.line))?;
+            source.at += old;
+            continue;
+        }
         if source.has_conditions {
             if let Some((way, condition)) = source.condition() {
                 take(way, line, &condition, &mut rest)
@@ -200,6 +207,8 @@ struct Source<'a> {
     owned: usize,
     /// Whether its items have conditions.
     has_conditions: bool,
+    /// Where a macro's brackets end.
+    end_of_macro: usize,
 }
 
 impl<'a> Source<'a> {
@@ -239,21 +248,35 @@ impl<'a> Source<'a> {
         unreachable!("it ends")
     }
 
-    /// Why what stands here would mean something else in Rust, if it would, whatever became of it.
+    /// Why what stands here may mean something else in Rust, if it may, whatever became of it.
     fn unknown(&self) -> Option<&'static str> {
         let (last, word, next) = (self.before(1), self.text(0), self.text(1));
         match word {
             "mod" => (self.text(2) == "{").then_some("a module without the prelude"),
-            "core" | "alloc" | "thiserror" if next == "::" && last != "::" => {
-                Some("a crate that is another one in Rust")
+            "::" => {
+                let is_inside =
+                    last == ">" || last.chars().all(|c| c == '_' || c.is_alphanumeric());
+                let is_first = ["", "use", "in", "as", "return", "mut", "dyn", "impl", "for"];
+                (!is_inside || is_first.contains(&last)).then_some("a path of Rust's crates")
             }
-            "Clone" => (!self.is_bound() && next != "for").then_some("a name that is no bound"),
-            "clone" => {
-                let is_method = matches!((last, next), ("fn" | ".", "("));
-                (!is_method).then_some("a name that is no method")
-            }
-            _ => None,
+            "*" => (next == ";" && last == "::" || last == "{" && next == "}")
+                .then_some("an import of all names"),
+            "Members" | "TryClone" | "try_clone" => Some("a name of the shim's"),
+            _ => word.ends_with("_using").then_some("a name of the shim's"),
         }
+    }
+
+    /// Where the macro ends whose name stands here, if it is called or defined with brackets.
+    fn end_of_macro(&self) -> Option<usize> {
+        let open = match (self.text(0), self.text(1)) {
+            ("macro_rules", "!") => 3,
+            ("if" | "match" | "while" | "return" | "in" | "else", _) => return None,
+            (_, "!") => 2,
+            _ => return None,
+        };
+        let is_name = self.text(0).starts_with(|c: char| c == '_' || c.is_alphabetic());
+        let is_open = ["(", "[", "{"].contains(&self.text(open));
+        (is_name && is_open).then(|| self.at + open + self.block(open))
     }
 
     /// What is compiled with a feature only: the condition of the item that begins here, after the
@@ -324,8 +347,6 @@ impl<'a> Source<'a> {
         let is_root = self.text(ahead + 1) == "::" && !is_inner;
         match self.text(ahead) {
             "crate" if is_root => format!("crate::proved::{}", self.crate_name),
-            "std" if is_root => "crate::shim".into(),
-            word if is_root && is_crate(word) => format!("crate::proved::{word}"),
             word => word.into(),
         }
     }
@@ -340,12 +361,6 @@ impl<'a> Source<'a> {
             (",", _) if is_owned(1) && self.text(2) == "}" => Some(step(way, 2, "")),
             _ => None,
         }
-    }
-
-    /// Whether a trait stands here that is asked for: behind a colon or a plus, and in front of
-    /// what ends or goes on with the list.
-    fn is_bound(&self) -> bool {
-        matches!((self.before(1), self.text(1)), (":" | "+", "," | ">" | "+" | ")" | "{"))
     }
 
     fn step(&mut self) -> Step {
@@ -477,12 +492,6 @@ impl<'a> Source<'a> {
     fn name(&self) -> Option<Step> {
         let (word, next) = (self.text(0), self.text(1));
         match word {
-            "+" | ":" if next == "Drop" && (word == "+" || [">", ","].contains(&self.text(2))) => {
-                Some(step("bound Drop left out", 2, ""))
-            }
-            "use" if self.stands("use thiserror :: Error ;") => {
-                Some(step("use of thiserror left out", 5, ""))
-            }
             "(" if self.stands("( crate )") => {
                 Some(step("pub(crate)", 3, format!("(in crate::proved::{})", self.crate_name)))
             }
@@ -497,13 +506,14 @@ impl<'a> Source<'a> {
                 Some(step("function that the facade calls", 1, "pub(crate) fn"))
             }
             _ if self.allocators.iter().any(|name| name == word) => {
-                Some(step("allocator is Global", 1, "crate::shim::alloc::Global"))
+                Some(step("allocator is Global", 1, "crate::shim::alloc::Handed"))
             }
             "Iterator" if next == "for" => {
                 Some(step("iterator of members", 1, "crate::shim::iter::Members"))
             }
-            "Clone" => Some(step("refusable clone", 1, "TryClone")),
-            "clone" => Some(step("refusable clone", 1, "try_clone")),
+            "clone" if [".", "fn"].contains(&self.before(1)) && next == "(" => {
+                Some(step("refusable clone", 1, "try_clone"))
+            }
             "allocator" | "collect" | "extend_from_slice" | "insert" | "push" | "try_reserve"
                 if [".", "fn"].contains(&self.before(1)) && next == "(" =>
             {
@@ -513,10 +523,6 @@ impl<'a> Source<'a> {
                 if self.before(1) == "::" && ["Vec", "String"].contains(&self.before(2)) =>
             {
                 Some(step("function that is handed an allocator", 1, format!("{word}_using")))
-            }
-            "format" | "vec" if next == "!" && self.text(3) == "in" => {
-                let name = format!("crate::shim::{word}");
-                Some(step("macro that is handed an allocator", 1, name))
             }
             _ => self.root(),
         }
@@ -545,11 +551,6 @@ impl<'a> Source<'a> {
     /// The root of a path.
     fn root(&self) -> Option<Step> {
         let (word, root) = (self.text(0), self.renamed(0));
-        let way = match word {
-            "crate" => "root of the crate",
-            "std" => "root of std",
-            _ => "root of another crate",
-        };
-        (root != word).then(|| step(way, 1, root))
+        (root != word).then(|| step("root of the crate", 1, root))
     }
 }

@@ -11,7 +11,8 @@ use Rattle.wenc.specs.declared.failure.Failure.TheVariants.{Arguments, BadLine, 
 
 -- The commands that a script says ran, with these results, and the bytes are the component of the
 -- items that they led to.
-pub record IsBuilt {A : Type 0} (built : Built A) (said : Result (List CommandTree) ℕ) : Type 0 where
+pub record IsBuilt {A : Type 0} (built : Built A) (said : Result (List CommandTree) ℕ)
+    : Type 0 where
   pub commands : List CommandTree
   pub entries : List Entry
   pub says : said ≡ Ok commands

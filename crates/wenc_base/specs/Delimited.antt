@@ -13,8 +13,8 @@ IsReadable {A} form = (read : ℕ → Reader A) × LawfulForm form read
 abbrev pub IsWritten : {A S : Type 0} → Form A → (A → S) → Form S → Type 0
 IsWritten {A} piece seen form = (v : A) → Serves (piece v) (form (seen v))
 
--- What is seen of a value, as it is compared, independent of where it is stored: for a reference, the
--- value that it refers to. Its form can be read back, in one way only.
+-- What is seen of a value, as it is compared, independent of where it is stored: for a reference,
+-- the value that it refers to. Its form can be read back, in one way only.
 pub record ReadsBack (A : Type 0) : Type 1 where
   pub Seen : Type 0
   pub seen : A → Seen

@@ -35,8 +35,8 @@ IndexCause space None fault = ⊥
 IndexCause space (Some d) fault = SpaceCause (space d.space) fault
 
 -- Adding an item is refused: for its own cause, that of its space, or that of the open section.
-abbrev pub AddingCause : (Fault → Type 0) → (Space → Namespace) → Option Indices → Option OpenSection
-    → Fault → Type 0
+abbrev pub AddingCause : (Fault → Type 0) → (Space → Namespace) → Option Indices
+    → Option OpenSection → Fault → Type 0
 AddingCause cause space indices current fault =
     cause fault ⊎ (IndexCause space indices fault ⊎ SectionCause current fault)
 

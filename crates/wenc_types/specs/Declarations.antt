@@ -111,8 +111,8 @@ abbrev pub ComponentDeclares : TypeState → List ComponentDeclaration → Type 
 ComponentDeclares = Declares component_declaration component_space
 
 -- These bytes are the text of a declaration that fits and counts as this.
-pub record IsDeclaration {D : Type 0} (form : Form D) (space : D → Option IndexSpace) (bytes : List ℕ)
-    (counts_as : Option IndexSpace) : Type 0 where
+pub record IsDeclaration {D : Type 0} (form : Form D) (space : D → Option IndexSpace)
+    (bytes : List ℕ) (counts_as : Option IndexSpace) : Type 0 where
   pub declaration : D
   pub fits : (form declaration).Fits
   pub text_is : bytes ≡ (form declaration).text

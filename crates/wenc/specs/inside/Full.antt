@@ -6,7 +6,8 @@ use Rattle.wenc.specs.Script.{has_empty}
 use Rattle.wenc.specs.Fields.{kind, number_word}
 
 -- what words say, if none is empty
-abbrev pub unless_word_empty : (List (List ℕ) → Option CommandTree) → List (List ℕ) → Option CommandTree
+abbrev pub unless_word_empty : (List (List ℕ) → Option CommandTree) → List (List ℕ)
+    → Option CommandTree
 unless_word_empty says words = if has_empty words then None else says words
 
 -- two values, where there are both

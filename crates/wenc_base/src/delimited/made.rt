@@ -33,8 +33,8 @@ impl<T: Delimited, U: Delimited> Delimited for (T, U) {
 }
 
 impl<T: DelimitedEq, U: DelimitedEq> DelimitedEq for (T, U) {
-    ghost alike = { λ _. pair_equal T.eq U.eq T.reads_back.seen U.reads_back.seen (T.alike T.Eq.laws)
-        (U.alike U.Eq.laws) };
+    ghost alike = { λ _. pair_equal T.eq U.eq T.reads_back.seen U.reads_back.seen
+        (T.alike T.Eq.laws) (U.alike U.Eq.laws) };
 }
 
 impl<T: Delimited, U: Delimited, V: Delimited> Delimited for (T, U, V) {

@@ -10,8 +10,9 @@ use crate::short::Short;
 use std::alloc::Allocator;
 use std::marker::Model;
 
-/// Up to 11 value types on the stack, as their encodings of one byte each: number types, vector types
-/// and nullable references to `func` and `extern` (WebAssembly 3.0, binary format, "Value Types").
+/// Up to 11 value types on the stack, as their encodings of one byte each: number types, vector
+/// types and nullable references to `func` and `extern` (WebAssembly 3.0, binary format, "Value
+/// Types").
 #[derive(Drop)]
 pub struct ByteTypes {
     bytes: Short,
@@ -40,8 +41,8 @@ impl ByteTypes {
         }
     }
 
-    /// Appends a type and returns true, or returns false if its encoding is longer than one byte or if
-    /// there are 11 types.
+    /// Appends a type and returns true, or returns false if its encoding is longer than one byte or
+    /// if there are 11 types.
     #[inline(always)]
     pub fn push(&mut self, ty: ValType) -> bool
         ensures has_room { result ≡ (is_byte_type ty && nat_lt (length self.old) 11) }

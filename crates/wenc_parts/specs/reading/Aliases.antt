@@ -38,7 +38,8 @@ read_outer kind = read_u32 >>= λ count. read_u32 >>= λ number. give (Outer kin
 
 -- if exports and outer items have this sort
 abbrev pub read_export_or_outer : ComponentExportKind → ComponentOuterAliasKind → Reader AliasOf
-read_export_or_outer kind outer = choose ((0x00, read_export kind) ∷ (0x02, read_outer outer) ∷ []) nowhere
+read_export_or_outer kind outer =
+    choose ((0x00, read_export kind) ∷ (0x02, read_outer outer) ∷ []) nowhere
 
 -- if only exports have this sort
 abbrev pub read_exported_alias : ComponentExportKind → Reader AliasOf

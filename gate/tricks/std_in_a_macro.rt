@@ -1,0 +1,16 @@
+//! A macro that tells what it is passed.
+#![tactic(auto)]
+
+ghost use Rattle.std.specs.Prelude.{◌≡◌};
+
+macro_rules! m {
+    ($a:ident :: $b:ident) => { true };
+    ($a:ident :: $b:ident :: $c:ident) => { false };
+}
+
+/// Returns whether it is what was proved.
+pub fn trick() -> bool
+    ensures { result ≡ true }
+{
+    m!(std::x)
+}
