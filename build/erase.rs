@@ -46,7 +46,9 @@ mod lexer;
 
 #[allow(unused_imports, reason = "the build script has crates of features")]
 pub use conditions::{TREE, WALK, is_owned};
-use known::{ALLOCATING, APART, BROUGHT, INLINED, KEYWORDS, MAKING, NARROWED, OWNED, WIDENED};
+use known::{
+    ALLOCATING, APART, BROUGHT, DECLARING, INLINED, KEYWORDS, MAKING, NARROWED, OWNED, WIDENED,
+};
 use lexer::{Kind, Token, tokens};
 use std::borrow::Cow;
 
@@ -168,7 +170,7 @@ impl<'a> Eraser<'a> {
             }
         }
         self.examples()?;
-        self.allocators()?;
+        let allocators = self.allocators()?;
         let mut i = 0;
         while i < self.code.len() {
             let is_left_out = self.becomes[self.code[i]].is_empty();
@@ -182,7 +184,7 @@ impl<'a> Eraser<'a> {
             };
         }
         self.keeps_macros()?;
-        self.bring_prelude();
+        self.bring_prelude(&allocators);
         Ok(())
     }
 
@@ -202,6 +204,9 @@ impl<'a> Eraser<'a> {
             "unsafe" => return Err((self.line(i), "an `unsafe`")),
             "pub" if self.is_narrowed(i) => self.put(i, "pub(crate)"),
             "Iterator" if self.at(i + 1) == "for" => self.put(i, "crate::shim::iter::Members"),
+            "Iterator" if DECLARING.contains(&self.before(i, 1)) => {
+                return Err((self.line(i), "another `Iterator`"));
+            }
             "clone" if self.is_method(i) => self.put(i, "try_clone"),
             word if self.goes_on(i) && (word == "clone" || ALLOCATING.contains(&word)) => {
                 return Err((self.line(i), "a method that is named by its path"));
@@ -372,11 +377,11 @@ impl<'a> Eraser<'a> {
         Ok(())
     }
 
-    /// Refuses an import of all names, and one that gives a name.
+    /// Refuses an import of all names, one that gives a name, and one of another `Iterator`.
     fn import(&self, i: usize) -> Result<(), Refused> {
         let mut names = (i..self.code.len()).take_while(|j| self.at(*j) != ";");
-        match names.find(|j| ["*", "as"].contains(&self.at(*j))) {
-            Some(j) => Err((self.line(j), "an import without its name")),
+        match names.find(|j| ["*", "as", "Iterator"].contains(&self.at(*j))) {
+            Some(j) => Err((self.line(j), "an import that is not known")),
             None => Ok(()),
         }
     }
@@ -408,16 +413,17 @@ impl<'a> Eraser<'a> {
         Ok(())
     }
 
-    /// Brings the shim's names into scope, before the first item.
-    fn bring_prelude(&mut self) {
+    /// Brings the shim's names into scope before the first item, and declares those of allocators.
+    fn bring_prelude(&mut self, allocators: &[&str]) {
         let is_front = |t: &usize| match self.tokens[*t].kind {
             Kind::Space | Kind::Ghost => true,
             Kind::Comment => !self.tokens[*t].text.starts_with("///"),
             _ => self.becomes[*t].is_empty(),
         };
         if let Some(t) = (0..self.tokens.len()).find(|t| !is_front(t)) {
+            let names: String = allocators.iter().map(|name| format!("struct {name}; ")).collect();
             let first = &self.becomes[t];
-            self.becomes[t] = format!("use crate::shim::prelude::*; {first}").into();
+            self.becomes[t] = format!("use crate::shim::prelude::*; {names}{first}").into();
         }
     }
 

@@ -76,12 +76,6 @@ pub trait TryClone: Sized {
     fn try_clone(&self) -> Result<Self, AllocError>;
 }
 
-impl<T> TryClone for &T {
-    fn try_clone(&self) -> Result<Self, AllocError> {
-        Ok(*self)
-    }
-}
-
 impl TryClone for Global {
     #[inline]
     fn try_clone(&self) -> Result<Self, AllocError> {

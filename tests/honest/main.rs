@@ -87,7 +87,7 @@ fn erased_sources_are_the_sources() {
 
 /// Sources of which an edit, or the same words, would mean something else in Rust, and what the
 /// eraser would make of each if it edited it.
-const UNKNOWN: [(&str, &str); 21] = [
+const UNKNOWN: [(&str, &str); 19] = [
     ("mod inner { fn f() {} }", "mod inner { fn f() {} }"),
     ("pub mod inner {}", "pub mod inner {}"),
     ("use ::std::A;", "use ::std::A;"),
@@ -104,11 +104,9 @@ const UNKNOWN: [(&str, &str); 21] = [
     ("fn f() { m!(#[tactic(auto)] x) }", "fn f() { m!(x) }"),
     ("fn f() { m!(\n/// a\nx) }", "fn f() { m!(\n\nx) }"),
     ("macro_rules! m { (crate::x) => {} }", "macro_rules! m { (crate::proved::named::x) => {} }"),
-    ("fn f<A: Allocator>() { [B, A, B] }", "fn f() { [B, B] }"),
-    ("fn f<A: Allocator>() { g(A) }", "fn f() { g(crate::shim::alloc::Handed) }"),
-    ("fn f<A: Allocator>() { m!(S::<A>::x) }", "fn f() { m!(S::x) }"),
-    ("fn f<A: Allocator>() { S { x: B<C, A, D> } }", "fn f() { S { x: B<C, D> } }"),
-    ("fn f<A: Allocator>(x: [u8; g(A)]) {}", "fn f(x: [u8; g(crate::shim::alloc::Handed)]) {}"),
+    ("fn f<A: Allocator>() { m!(S::<A>::x) }", "struct A; fn f() { m!(S::x) }"),
+    ("fn f<A: Allocator>() {}", "fn f() {}"),
+    ("fn f<A: Allocator>() {}", "struct B; fn f() {}"),
 ];
 
 #[test]
@@ -129,7 +127,7 @@ fn what_means_something_else_in_rust_is_found() {
         ("/// a\nm!(x);", "/// a\nm!(x);"),
         (
             "fn f<A: Allocator>(a: A, x: [S<A>; 2]) { let x: T<u8, A> = S::<A>::x(); }",
-            "fn f(a: crate::shim::alloc::Handed, x: [S; 2]) { let x: T<u8> = S::x(); }",
+            "struct A; fn f(a: crate::shim::alloc::Handed, x: [S; 2]) { let x: T<u8> = S::x(); }",
         ),
     ] {
         assert_eq!(read(source, rust), Ok(()), "{source}");

@@ -8,9 +8,10 @@ use super::lexer::{Token, lex};
 use std::collections::BTreeMap;
 
 /// The ways, each of which some source takes.
-pub const WAYS: [&str; 26] = [
+pub const WAYS: [&str; 27] = [
     "kept",
     "prelude",
+    "name of an allocator",
     "attribute of the prover left out",
     "derive of Drop left out",
     "derive of a tree",
@@ -89,8 +90,8 @@ pub struct Old {
     tokens: Vec<Token>,
     /// The names of allocators, which become `Global` where they are left.
     allocators: Vec<String>,
-    /// The first of their names that stands where no type does.
-    misplaced: Option<Token>,
+    /// One of their names that a macro is passed.
+    passed: Option<Token>,
 }
 
 impl Old {
@@ -98,9 +99,15 @@ impl Old {
     pub fn new(source: &str, counts: &mut BTreeMap<&'static str, usize>) -> Old {
         let mut tokens = lex(source);
         let allocators = allocators::names(&tokens);
-        let misplaced = allocators::misplaced(&tokens, &allocators).cloned();
+        let passed = Self::passed(&tokens, &allocators).cloned();
         allocators::leave_out(&mut tokens, &allocators, counts);
-        Old { tokens, allocators, misplaced }
+        Old { tokens, allocators, passed }
+    }
+
+    fn passed<'a>(tokens: &'a [Token], names: &[String]) -> Option<&'a Token> {
+        let end = |at| Source { tokens, at, ..Source::default() }.end_of_macro();
+        let mut macros = (0..tokens.len()).filter_map(|at| Some(&tokens[at..end(at)?]));
+        macros.find_map(|passed| passed.iter().find(|token| names.contains(&token.text)))
     }
 }
 
@@ -113,8 +120,8 @@ pub fn compare(
     has_lines: bool,
     counts: &mut BTreeMap<&'static str, usize>,
 ) -> Result<(), String> {
-    if let Some(name) = &old.misplaced {
-        return Err(format!("{}: the allocator {} is no type here", name.line, name.text));
+    if let Some(name) = &old.passed {
+        return Err(format!("{}: a macro is passed the allocator {}", name.line, name.text));
     }
     let has_conditions = has_conditions(crate_name, module);
     let mut source = Source {
@@ -129,6 +136,10 @@ pub fn compare(
         // It stands in the line of what documents the first item.
         let line = has_lines.then_some(rest[0].line);
         take("prelude", line, "use crate::shim::prelude::*;", &mut rest)?;
+        for name in &old.allocators {
+            take("name of an allocator", line, &format!("struct {name};"), &mut rest)?;
+            *counts.entry("name of an allocator").or_default() += 1;
+        }
         counts.insert("prelude", 1);
     }
     while let Some(first) = old.tokens.get(source.at) {
