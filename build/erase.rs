@@ -170,7 +170,7 @@ impl<'a> Eraser<'a> {
             }
         }
         self.examples()?;
-        let allocators = self.allocators()?;
+        self.allocators()?;
         let mut i = 0;
         while i < self.code.len() {
             let is_left_out = self.becomes[self.code[i]].is_empty();
@@ -184,7 +184,7 @@ impl<'a> Eraser<'a> {
             };
         }
         self.keeps_macros()?;
-        self.bring_prelude(&allocators);
+        self.bring_prelude();
         Ok(())
     }
 
@@ -413,17 +413,16 @@ impl<'a> Eraser<'a> {
         Ok(())
     }
 
-    /// Brings the shim's names into scope before the first item, and declares those of allocators.
-    fn bring_prelude(&mut self, allocators: &[&str]) {
+    /// Brings the shim's names into scope, before the first item.
+    fn bring_prelude(&mut self) {
         let is_front = |t: &usize| match self.tokens[*t].kind {
             Kind::Space | Kind::Ghost => true,
             Kind::Comment => !self.tokens[*t].text.starts_with("///"),
             _ => self.becomes[*t].is_empty(),
         };
         if let Some(t) = (0..self.tokens.len()).find(|t| !is_front(t)) {
-            let names: String = allocators.iter().map(|name| format!("struct {name}; ")).collect();
             let first = &self.becomes[t];
-            self.becomes[t] = format!("use crate::shim::prelude::*; {names}{first}").into();
+            self.becomes[t] = format!("use crate::shim::prelude::*; {first}").into();
         }
     }
 

@@ -74,34 +74,28 @@ fn what_introduces_an_example_is_left_out() {
 #[test]
 fn allocators_are_left_out() {
     for (source, wanted) in [
-        (
-            "struct S<A: Allocator = Global>(Vec<u8, A>, [T<A>; 3]);",
-            "struct A; struct S(Vec<u8>, [T; 3]);",
-        ),
-        ("fn f<A: Allocator + 'a, C>(a: A, b: T<A, C>);", "struct A; fn f<C>(a: Global, b: T<C>);"),
+        ("struct S<A: Allocator = Global>(Vec<u8, A>, [T<A>; 3]);", "struct S(Vec<u8>, [T; 3]);"),
+        ("fn f<A: Allocator + 'a, C>(a: A, b: T<A, C>);", "fn f<C>(a: Global, b: T<C>);"),
         (
             "fn f<T, A: Allocator, B: Allocator>() where A: Copy, { S::<A>::a(g::<T, A>()) }",
-            "struct A; struct B; fn f<T>() { S::a(g::<T>()) }",
+            "fn f<T>() { S::a(g::<T>()) }",
         ),
-        (
-            "type S<B = Global> = T<K, B>; fn f(a: Option<A>);",
-            "struct B; type S = T<K>; fn f(a: Option<A>);",
-        ),
+        ("type S<B = Global> = T<K, B>; fn f(a: Option<A>);", "type S = T<K>; fn f(a: Option<A>);"),
         (
             "enum S<A = Global> { A1(T<A>), B { c: (U, V<A>) } } impl<A> S<A> where A: Copy, {}",
-            "struct A; enum S { A1(T), B { c: (U, V) } } impl S {}",
+            "enum S { A1(T), B { c: (U, V) } } impl S {}",
         ),
-        ("fn f<A: Allocator>() { let mut x: T<A> = y; }", "struct A; fn f() { let mut x: T = y; }"),
+        ("fn f<A: Allocator>() { let mut x: T<A> = y; }", "fn f() { let mut x: T = y; }"),
         (
             "fn f<T: C, A: Allocator>() where T: D<A> + E, A: Copy, {}",
-            "struct A; fn f<T: C>() where T: D + E, {}",
+            "fn f<T: C>() where T: D + E, {}",
         ),
         // These don't compile.
-        ("fn f<A: Allocator>() { [B, A, B] }", "struct A; fn f() { [B, Global, B] }"),
-        ("enum K { B, A } fn f<A: Allocator>() {}", "struct A; enum K { B, Global } fn f() {}"),
+        ("fn f<A: Allocator>() { [B, A, B] }", "fn f() { [B, Global, B] }"),
+        ("enum K { B, A } fn f<A: Allocator>() {}", "enum K { B, Global } fn f() {}"),
         (
             "fn f<A: Allocator>((B, A, C): D) { |B, A, C| B }",
-            "struct A; fn f((B, Global, C): D) { |B, Global, C| B }",
+            "fn f((B, Global, C): D) { |B, Global, C| B }",
         ),
         (
             "fn f() { Vec::new(a).push(K::new(a)) }",

@@ -7,24 +7,22 @@ use std::ops::Range;
 /// What may follow an allocator's name and the sign after it, other than a lifetime.
 const BOUNDS: [&str; 5] = ["Allocator", "Clone", "Copy", "Drop", "Global"];
 
-impl<'a> Eraser<'a> {
+impl Eraser<'_> {
     /// Leaves out allocators where they are parameters, stand for these or have bounds. The others
-    /// become `Handed`. A name that is an allocator's anywhere in the file is one everywhere: of
-    /// each, a type is declared before the file's first item, so that rustc rejects an item, an
-    /// import or a variable of that name. Returns the names.
-    pub(super) fn allocators(&mut self) -> Result<Vec<&'a str>, Refused> {
+    /// become `Handed`, which is a type and no value. A name that is an allocator's anywhere in the
+    /// file is one everywhere: where it is declared or imported as something else, or is a variable,
+    /// the file is refused here or doesn't compile.
+    pub(super) fn allocators(&mut self) -> Result<(), Refused> {
         let is_declared = |i: &usize| {
             let is_bound = self.stands(i + 1, ": Allocator") && self.is_word(*i);
             is_bound || self.stands(i + 1, "= Global >") && self.at(*i) != "Allocator"
         };
         let all = 0..self.code.len();
-        let mut names: Vec<&str> = all.clone().filter(is_declared).map(|i| self.at(i)).collect();
-        names.sort_unstable();
-        names.dedup();
-        for i in all.clone().filter(|i| names.contains(&self.at(*i))) {
-            if DECLARING.contains(&self.before(i, 1)) {
-                return Err((self.line(i), "an allocator's name that is declared"));
-            }
+        let names: Vec<&str> = all.clone().filter(is_declared).map(|i| self.at(i)).collect();
+        let is_another =
+            |i: &usize| names.contains(&self.at(*i)) && DECLARING.contains(&self.before(*i, 1));
+        if let Some(i) = all.clone().find(is_another) {
+            return Err((self.line(i), "an allocator's name that is declared"));
         }
         let mut left = Vec::new();
         for i in all {
@@ -38,7 +36,7 @@ impl<'a> Eraser<'a> {
                 self.put(i, "crate::shim::alloc::Handed");
             }
         }
-        Ok(names)
+        Ok(())
     }
 
     /// Leaves out a token, and the blank after it unless a word follows the bracket that it is.

@@ -22,8 +22,7 @@ pub const LEFT_OUT: [(&str, &str); 14] = [
     ("where A , {", "{"),
 ];
 
-/// The names of the allocators in a source. Its Rust declares a type of each, so that rustc rejects
-/// another use of the name.
+/// The names of the allocators in a source.
 pub fn names(tokens: &[Token]) -> Vec<String> {
     let declared = tokens.windows(3).filter_map(|three| {
         let [name, sign, of] = three else { return None };

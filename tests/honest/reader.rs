@@ -8,10 +8,9 @@ use super::lexer::{Token, lex};
 use std::collections::BTreeMap;
 
 /// The ways, each of which some source takes.
-pub const WAYS: [&str; 27] = [
+pub const WAYS: [&str; 26] = [
     "kept",
     "prelude",
-    "name of an allocator",
     "attribute of the prover left out",
     "derive of Drop left out",
     "derive of a tree",
@@ -136,10 +135,6 @@ pub fn compare(
         // It stands in the line of what documents the first item.
         let line = has_lines.then_some(rest[0].line);
         take("prelude", line, "use crate::shim::prelude::*;", &mut rest)?;
-        for name in &old.allocators {
-            take("name of an allocator", line, &format!("struct {name};"), &mut rest)?;
-            *counts.entry("name of an allocator").or_default() += 1;
-        }
         counts.insert("prelude", 1);
     }
     while let Some(first) = old.tokens.get(source.at) {
