@@ -138,9 +138,6 @@ pub fn compare(
         counts.insert("prelude", 1);
     }
     while let Some(first) = old.tokens.get(source.at) {
-        if let Some(why) = source.unknown() {
-            return Err(format!("{}: {:?} is {why}", first.line, first.text));
-        }
         let line = has_lines.then_some(first.line);
         if let Some(end) = source.end_of_macro().filter(|_| source.at >= source.end_of_macro) {
             (begin, source.end_of_macro) = (source.at, end);
@@ -252,24 +249,6 @@ impl<'a> Source<'a> {
             }
         }
         unreachable!("it ends")
-    }
-
-    /// Why what stands here may mean something else in Rust, if it may, whatever became of it.
-    fn unknown(&self) -> Option<&'static str> {
-        let (last, word, next) = (self.before(1), self.text(0), self.text(1));
-        match word {
-            "mod" => (self.text(2) == "{").then_some("a module without the prelude"),
-            "::" => {
-                let is_inside =
-                    last == ">" || last.chars().all(|c| c == '_' || c.is_alphanumeric());
-                let is_first = ["", "use", "in", "as", "return", "mut", "dyn", "impl", "for"];
-                (!is_inside || is_first.contains(&last)).then_some("a path of Rust's crates")
-            }
-            "*" => (next == ";" && last == "::" || last == "{" && next == "}")
-                .then_some("an import of all names"),
-            "Members" | "TryClone" | "try_clone" => Some("a name of the shim's"),
-            _ => word.ends_with("_using").then_some("a name of the shim's"),
-        }
     }
 
     /// Where the macro ends whose name stands here, if it is called or defined with brackets.
