@@ -18,10 +18,10 @@
 //!   [`WIDENED`]; `#[inline]` to the functions in [`INLINED`], but `#[inline(never)]` to what copies
 //!   the trees in [`APART`]; conditions to the items that exist only with a feature
 //!   ([`with_conditions`]);
-//! - *refuses*: a change between the brackets of a macro, which may do anything with a token; an
-//!   allocator's name that is no type; an import that gives a name or brings all; a name that the
-//!   eraser brings in; and everything else that it doesn't know, such as a module with a body. No
-//!   crate is better than one that does something else than was proved.
+//! - *refuses*: a change between the brackets of a macro, which may do anything with a token; an item
+//!   with the name of an allocator; an import that gives a name or brings all; a name that the eraser
+//!   brings in, and another `Iterator`; and everything else that it doesn't know, such as a module
+//!   with a body. No crate is better than one that does something else than was proved.
 //!
 //! All other names stay, and mean what they mean in the shim's prelude, which has Rattle's names
 //! for `std`, the other crates, `Clone`, `Drop`, `format` and so on. No others are in scope, since
