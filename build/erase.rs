@@ -18,10 +18,10 @@
 //!   [`WIDENED`]; `#[inline]` to the functions in [`INLINED`], but `#[inline(never)]` to what copies
 //!   the trees in [`APART`]; conditions to the items that exist only with a feature
 //!   ([`with_conditions`]);
-//! - *refuses*: a change between the brackets of a macro, which may do anything with a token; an
-//!   allocator's name that is no type; an import that gives a name or brings all; a name that the
-//!   eraser brings in; and everything else that it doesn't know, such as a module with a body. No
-//!   crate is better than one that does something else than was proved.
+//! - *refuses*: a change between the brackets of a macro, which may do anything with a token; an item
+//!   with the name of an allocator; an import that gives a name or brings all; a name that the eraser
+//!   brings in, and another `Iterator`; and everything else that it doesn't know, such as a module
+//!   with a body. No crate is better than one that does something else than was proved.
 //!
 //! All other names stay, and mean what they mean in the shim's prelude, which has Rattle's names
 //! for `std`, the other crates, `Clone`, `Drop`, `format` and so on. No others are in scope, since
@@ -46,7 +46,9 @@ mod lexer;
 
 #[allow(unused_imports, reason = "the build script has crates of features")]
 pub use conditions::{TREE, WALK, is_owned};
-use known::{ALLOCATING, APART, BROUGHT, INLINED, KEYWORDS, MAKING, NARROWED, OWNED, WIDENED};
+use known::{
+    ALLOCATING, APART, BROUGHT, DECLARING, INLINED, KEYWORDS, MAKING, NARROWED, OWNED, WIDENED,
+};
 use lexer::{Kind, Token, tokens};
 use std::borrow::Cow;
 
@@ -202,6 +204,9 @@ impl<'a> Eraser<'a> {
             "unsafe" => return Err((self.line(i), "an `unsafe`")),
             "pub" if self.is_narrowed(i) => self.put(i, "pub(crate)"),
             "Iterator" if self.at(i + 1) == "for" => self.put(i, "crate::shim::iter::Members"),
+            "Iterator" if DECLARING.contains(&self.before(i, 1)) => {
+                return Err((self.line(i), "another `Iterator`"));
+            }
             "clone" if self.is_method(i) => self.put(i, "try_clone"),
             word if self.goes_on(i) && (word == "clone" || ALLOCATING.contains(&word)) => {
                 return Err((self.line(i), "a method that is named by its path"));
@@ -372,11 +377,11 @@ impl<'a> Eraser<'a> {
         Ok(())
     }
 
-    /// Refuses an import of all names, and one that gives a name.
+    /// Refuses an import of all names, one that gives a name, and one of another `Iterator`.
     fn import(&self, i: usize) -> Result<(), Refused> {
         let mut names = (i..self.code.len()).take_while(|j| self.at(*j) != ";");
-        match names.find(|j| ["*", "as"].contains(&self.at(*j))) {
-            Some(j) => Err((self.line(j), "an import without its name")),
+        match names.find(|j| ["*", "as", "Iterator"].contains(&self.at(*j))) {
+            Some(j) => Err((self.line(j), "an import that is not known")),
             None => Ok(()),
         }
     }

@@ -77,15 +77,26 @@ fn allocators_are_left_out() {
         ("struct S<A: Allocator = Global>(Vec<u8, A>, [T<A>; 3]);", "struct S(Vec<u8>, [T; 3]);"),
         ("fn f<A: Allocator + 'a, C>(a: A, b: T<A, C>);", "fn f<C>(a: Global, b: T<C>);"),
         (
-            "fn f<T, A: Allocator>() where A: Copy, { S::<A>::a(g::<T, A>()) }",
+            "fn f<T, A: Allocator, B: Allocator>() where A: Copy, { S::<A>::a(g::<T, A>()) }",
             "fn f<T>() { S::a(g::<T>()) }",
         ),
         ("type S<B = Global> = T<K, B>; fn f(a: Option<A>);", "type S = T<K>; fn f(a: Option<A>);"),
         (
-            "enum S<A = Global> { A1(T<A>), B { c: (U, V<A>) } } impl<A> S<A> where A: C, {}",
+            "enum S<A = Global> { A1(T<A>), B { c: (U, V<A>) } } impl<A> S<A> where A: Copy, {}",
             "enum S { A1(T), B { c: (U, V) } } impl S {}",
         ),
         ("fn f<A: Allocator>() { let mut x: T<A> = y; }", "fn f() { let mut x: T = y; }"),
+        (
+            "fn f<T: C, A: Allocator>() where T: D<A> + E, A: Copy, {}",
+            "fn f<T: C>() where T: D + E, {}",
+        ),
+        // These don't compile.
+        ("fn f<A: Allocator>() { [B, A, B] }", "fn f() { [B, Global, B] }"),
+        ("enum K { B, A } fn f<A: Allocator>() {}", "enum K { B, Global } fn f() {}"),
+        (
+            "fn f<A: Allocator>((B, A, C): D) { |B, A, C| B }",
+            "fn f((B, Global, C): D) { |B, Global, C| B }",
+        ),
         (
             "fn f() { Vec::new(a).push(K::new(a)) }",
             "fn f() { Vec::new_using(a).push_using(K::new(a)) }",
@@ -99,8 +110,8 @@ fn allocators_are_left_out() {
 const ATTRIBUTE: &str = "an attribute that is not known";
 const DERIVE: &str = "a derive that is not known";
 const PASSED: &str = "a change in what a macro is passed";
-const MISPLACED: &str = "an allocator's name that is no type";
-const IMPORT: &str = "an import without its name";
+const DECLARED: &str = "an allocator's name that is declared";
+const IMPORT: &str = "an import that is not known";
 const BROUGHT: &str = "a name that the eraser brings in";
 const ROOT: &str = "a `crate` that is no path's root";
 const GHOST: &str = "a ghost item that is not known";
@@ -121,23 +132,19 @@ const REFUSED: &[(usize, &str, &str)] = &[
     (1, PASSED, "macro_rules! m { () => { $crate::x } }"),
     (1, PASSED, "macro_rules! m { ($x:expr) => { $x.push(1) } }"),
     (1, PASSED, "fn f<A: Allocator>() { m!(S::<A>::g()) }"),
-    (1, MISPLACED, "fn f<A: Allocator>() { m!(x, A, y) }"),
-    (2, MISPLACED, "fn f<A: Allocator>() {}\nfn g() { [B, A, B] }"),
-    (1, MISPLACED, "fn f<A: Allocator>() { g(A) }"),
-    (1, MISPLACED, "fn f<A: Allocator>() { [B < C, A, D > B] }"),
-    (1, MISPLACED, "fn f<A: Allocator>() { S { x: B<C, A, D>B } }"),
-    (1, MISPLACED, "fn f<A: Allocator>() { m!(fn), [B, A, B] }"),
-    (1, MISPLACED, "fn f<A: Allocator>() { let x = [B, A, B]; }"),
-    (1, MISPLACED, "fn f<A: Allocator>() { |x: S<A>| x }"),
-    (1, MISPLACED, "fn f<A: Allocator>(x: [u8; g(B, A, C)]) {}"),
-    (1, MISPLACED, "fn f<A: Allocator>(x: [u8; g([B], A)]) {}"),
-    (1, MISPLACED, "fn f<A: Allocator>() { g::<{ [B, A, B] }>() }"),
-    (1, MISPLACED, "enum K<A = Global> { B = A }"),
-    (1, MISPLACED, "const C: S<A> = B; type T<A = Global> = S<A>;"),
+    (1, PASSED, "fn f<A: Allocator>() { m!(B < C, A, D > B) }"),
+    (2, DECLARED, "fn f<A: Allocator>() {}\nconst A: u8 = 1;"),
+    (1, DECLARED, "fn f<A: Allocator>() { static A: u8 = 1; }"),
+    (1, DECLARED, "fn f<A: Allocator>() { fn A() {} }"),
+    (1, DECLARED, "fn f<A: Allocator>() { struct A; }"),
+    (1, DECLARED, "fn f<A: Allocator>() {} fn g<const A: u8>() {}"),
+    (1, DECLARED, "type A = u8; fn f<A: Allocator>() {}"),
     (1, IMPORT, "use a::*;"),
     (2, IMPORT, "use a::{b,\n c::*};"),
     (1, IMPORT, "use crate::other as wenc_base;"),
     (1, IMPORT, "use a::{b as c};"),
+    (1, IMPORT, "use a::{b, Iterator};"),
+    (1, "another `Iterator`", "trait Iterator {}"),
     (1, "a method that is named by its path", "Vec::push(x, 1)"),
     (1, "a method that is named by its path", "S::clone(s)"),
     (1, BROUGHT, "fn f() { x.try_clone() }"),

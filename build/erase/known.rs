@@ -57,6 +57,10 @@ pub const KEYWORDS: [&str; 15] = [
     "return", "use", "while",
 ];
 
+/// Words that give the name after them to an item or to a constant parameter.
+pub const DECLARING: [&str; 8] =
+    ["const", "enum", "fn", "mod", "static", "struct", "trait", "type"];
+
 /// Derives with the same name in Rattle and in Rust.
 pub const DERIVED: [&str; 8] =
     ["Clone", "Copy", "Debug", "Eq", "Hash", "Ord", "PartialEq", "PartialOrd"];

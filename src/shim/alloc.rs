@@ -10,8 +10,8 @@ pub trait Allocator {}
 #[derive(Clone, Copy, Debug, PartialEq, Eq)]
 pub struct Global;
 
-/// The type of each allocator that the sources name. A type's other name is none of a value: where
-/// an expression had it, it wouldn't compile.
+/// The type of each allocator that the sources name. It is the name of no value or pattern: where
+/// an allocator's name is one, the source doesn't compile.
 pub type Handed = Global;
 
 /// Returns an error if a test plans that the next allocation is refused.
@@ -74,12 +74,6 @@ impl From<TryReserveError> for AllocError {
 pub trait TryClone: Sized {
     /// Returns a copy of the value, or an error if an allocation fails.
     fn try_clone(&self) -> Result<Self, AllocError>;
-}
-
-impl<T> TryClone for &T {
-    fn try_clone(&self) -> Result<Self, AllocError> {
-        Ok(*self)
-    }
 }
 
 impl TryClone for Global {

@@ -1,6 +1,6 @@
 //! Values on the heap.
 
-use super::alloc::{AllocFailed, Global, ask};
+use super::alloc::{AllocError, AllocFailed, Global, TryClone, ask};
 use alloc::boxed::Box as Inner;
 use alloc::vec::Vec;
 use core::fmt;
@@ -33,6 +33,13 @@ impl<T> Box<T> {
     pub fn into_inner(self) -> T {
         let [value] = *self.inner;
         value
+    }
+}
+
+/// Without it, a copy of a box would be one of its value.
+impl<T: TryClone> TryClone for Box<T> {
+    fn try_clone(&self) -> Result<Self, AllocError> {
+        Ok(Box::new(Global, T::try_clone(self)?)?)
     }
 }
 

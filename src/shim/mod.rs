@@ -119,13 +119,53 @@ pub mod str {
 
 #[cfg(any(script, test))]
 pub mod io {
-    //! Streams.
+    //! Streams, with the methods that the sources call: those of `std::io` have more, and are
+    //! implemented for more types than Rattle's.
 
-    pub use std::io::{Read, Write};
+    use std::io::Result;
+
+    /// What can be read.
+    pub trait Read {
+        /// Reads into the buffer, and returns how many bytes.
+        fn read(&mut self, into: &mut [u8]) -> Result<usize>;
+    }
+
+    /// What can be written to.
+    pub trait Write {
+        /// Writes some of the bytes, and returns how many.
+        fn write(&mut self, bytes: &[u8]) -> Result<usize>;
+
+        /// Writes what is buffered.
+        fn flush(&mut self) -> Result<()>;
+    }
+
+    impl<R: std::io::Read> Read for R {
+        fn read(&mut self, into: &mut [u8]) -> Result<usize> {
+            std::io::Read::read(self, into)
+        }
+    }
+
+    impl<W: std::io::Write> Write for W {
+        fn write(&mut self, bytes: &[u8]) -> Result<usize> {
+            std::io::Write::write(self, bytes)
+        }
+
+        fn flush(&mut self) -> Result<()> {
+            std::io::Write::flush(self)
+        }
+    }
 }
 
 #[cfg(any(script, test))]
 pub mod process;
 
 #[cfg(test)]
-pub use core::hash;
+pub mod hash {
+    //! Hashing, for contracts. The eraser adds Rust's `Hash` to types, so that one has no method
+    //! here.
+
+    /// What can be hashed.
+    pub trait Hash {}
+
+    impl<T: core::hash::Hash> Hash for T {}
+}

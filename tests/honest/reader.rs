@@ -89,8 +89,8 @@ pub struct Old {
     tokens: Vec<Token>,
     /// The names of allocators, which become `Global` where they are left.
     allocators: Vec<String>,
-    /// The first of their names that stands where no type does.
-    misplaced: Option<Token>,
+    /// One of their names that a macro is passed.
+    passed: Option<Token>,
 }
 
 impl Old {
@@ -98,9 +98,15 @@ impl Old {
     pub fn new(source: &str, counts: &mut BTreeMap<&'static str, usize>) -> Old {
         let mut tokens = lex(source);
         let allocators = allocators::names(&tokens);
-        let misplaced = allocators::misplaced(&tokens, &allocators).cloned();
+        let passed = Self::passed(&tokens, &allocators).cloned();
         allocators::leave_out(&mut tokens, &allocators, counts);
-        Old { tokens, allocators, misplaced }
+        Old { tokens, allocators, passed }
+    }
+
+    fn passed<'a>(tokens: &'a [Token], names: &[String]) -> Option<&'a Token> {
+        let end = |at| Source { tokens, at, ..Source::default() }.end_of_macro();
+        let mut macros = (0..tokens.len()).filter_map(|at| Some(&tokens[at..end(at)?]));
+        macros.find_map(|passed| passed.iter().find(|token| names.contains(&token.text)))
     }
 }
 
@@ -113,8 +119,8 @@ pub fn compare(
     has_lines: bool,
     counts: &mut BTreeMap<&'static str, usize>,
 ) -> Result<(), String> {
-    if let Some(name) = &old.misplaced {
-        return Err(format!("{}: the allocator {} is no type here", name.line, name.text));
+    if let Some(name) = &old.passed {
+        return Err(format!("{}: a macro is passed the allocator {}", name.line, name.text));
     }
     let has_conditions = has_conditions(crate_name, module);
     let mut source = Source {
@@ -132,9 +138,6 @@ pub fn compare(
         counts.insert("prelude", 1);
     }
     while let Some(first) = old.tokens.get(source.at) {
-        if let Some(why) = source.unknown() {
-            return Err(format!("{}: {:?} is {why}", first.line, first.text));
-        }
         let line = has_lines.then_some(first.line);
         if let Some(end) = source.end_of_macro().filter(|_| source.at >= source.end_of_macro) {
             (begin, source.end_of_macro) = (source.at, end);
@@ -246,24 +249,6 @@ impl<'a> Source<'a> {
             }
         }
         unreachable!("it ends")
-    }
-
-    /// Why what stands here may mean something else in Rust, if it may, whatever became of it.
-    fn unknown(&self) -> Option<&'static str> {
-        let (last, word, next) = (self.before(1), self.text(0), self.text(1));
-        match word {
-            "mod" => (self.text(2) == "{").then_some("a module without the prelude"),
-            "::" => {
-                let is_inside =
-                    last == ">" || last.chars().all(|c| c == '_' || c.is_alphanumeric());
-                let is_first = ["", "use", "in", "as", "return", "mut", "dyn", "impl", "for"];
-                (!is_inside || is_first.contains(&last)).then_some("a path of Rust's crates")
-            }
-            "*" => (next == ";" && last == "::" || last == "{" && next == "}")
-                .then_some("an import of all names"),
-            "Members" | "TryClone" | "try_clone" => Some("a name of the shim's"),
-            _ => word.ends_with("_using").then_some("a name of the shim's"),
-        }
     }
 
     /// Where the macro ends whose name stands here, if it is called or defined with brackets.
