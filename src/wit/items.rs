@@ -208,15 +208,15 @@ impl<'s, 'a> Writer<'s, 'a, '_> {
             return Ok(());
         }
         if is_own.is_err() {
-            self.failed.insert(of, ())?;
+            self.fail(of)?;
         }
         let mut next = number as u32;
         while let Some(twin) = items.twin(number, &mut next) {
+            self.at(&twin);
             if is_own.is_err() {
-                self.failed.insert(twin.of, ())?;
+                self.fail(twin.of)?;
                 continue;
             }
-            self.at(&twin);
             let of = twin.of;
             let is_same = match self.find(of, true)? {
                 Found::Name(other) => other == name.into(),
@@ -235,7 +235,8 @@ impl<'s, 'a> Writer<'s, 'a, '_> {
         item.is_done = true;
         let item = &items.all[number];
         if item.first as usize != number {
-            self.failed.insert(item.of, ())?;
+            self.at(item);
+            self.fail(item.of)?;
             return self.part(note(item.of.place(), Why::Taken));
         }
         self.extras(item)?;
@@ -259,12 +260,13 @@ impl<'s, 'a> Writer<'s, 'a, '_> {
         let is_written = written.is_ok();
         self.part(written)?;
         if !is_written {
-            self.failed.insert(items.all[number].of, ())?;
+            self.fail(items.all[number].of)?;
         }
         let mut next = number as u32;
         while let Some(twin) = items.twin(number, &mut next) {
+            self.at(&twin);
             if !is_written {
-                self.failed.insert(twin.of, ())?;
+                self.fail(twin.of)?;
                 continue;
             }
             let mut other = Text::default();

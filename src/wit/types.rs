@@ -188,7 +188,7 @@ impl<'s, 'a> Writer<'s, 'a, '_> {
         let Context { unit, interface: user, .. } = self.local.context;
         let is_exported = user.is_some_and(|user| self.is_exported(unit, user));
         let is_allowed = self.uses.allow(unit, (user, is_exported), number);
-        if !is_allowed || self.failed.get(of.of).is_some() {
+        if !is_allowed || self.failed[usize::from(of.is_export)].get(of.of).is_some() {
             return note(place, Why::Dependency);
         }
         // a package doesn't name itself
@@ -204,6 +204,16 @@ impl<'s, 'a> Writer<'s, 'a, '_> {
         text.put(format_args!("}};"))
     }
 
+    /// Keeps that a type of an interface isn't written, so that no other one uses it.
+    pub fn fail(&mut self, of: Definition<'s, 'a>) -> Written {
+        let Context { interface, is_export, .. } = self.local.context;
+        let side = usize::from(is_export);
+        match self.owners[side].get(of) {
+            Some(owner) if owner.interface == interface => self.failed[side].insert(owner.of, ()),
+            _ => Ok(()),
+        }
+    }
+
     /// Gives all that were seen when a type was looked for this name.
     fn keep(&mut self, name: TypeName<'a>) -> Written {
         for at in 0..self.seen.len() {
@@ -215,6 +225,11 @@ impl<'s, 'a> Writer<'s, 'a, '_> {
     /// Uses a type of an interface in the world, under a name that isn't there.
     fn use_in_world(&mut self, of: &Owner<'s, 'a>) -> Result<TypeName<'a>, Stop> {
         let original = of.name;
+        self.seen.push_using(of.of)?;
+        if let Some(name) = self.local.types.get(of.of) {
+            self.keep(name)?;
+            return Ok(name);
+        }
         let taken = match self.local.taken.take() {
             Some(taken) => taken,
             None => self.taken_names(self.units[self.local.context.unit as usize].scope)?,
@@ -435,8 +450,10 @@ impl<'s, 'a> Writer<'s, 'a, '_> {
                 self.value(text, scope, element)?;
                 return text.put(format_args!(", {length}>"));
             }
-            DefinedView::Map { key, .. } if !is_key(scope, key)? => return note(place, Why::Key),
-            DefinedView::Map { key, value } => ("map", [Some(key), Some(value)]),
+            DefinedView::Map { key, value } => match key_of(scope, key)? {
+                Some(key) => ("map", [Some(key.into()), Some(value)]),
+                None => return note(place, Why::Key),
+            },
             DefinedView::Option(ty) => ("option", [Some(ty), None]),
             DefinedView::Result { ok, err } => ("result", [ok, err]),
             DefinedView::Own(index) => return self.index(text, scope, index),
@@ -629,10 +646,10 @@ fn primitive(scope: Scope<'_, '_>, ty: Val) -> Result<Option<PrimitiveValType>, 
     }
 }
 
-/// Returns whether a map may have keys of this type.
-fn is_key(scope: Scope<'_, '_>, ty: Val) -> Result<bool, Stop> {
+/// Returns the type of a map's keys, which has no other name.
+fn key_of(scope: Scope<'_, '_>, ty: Val) -> Result<Option<PrimitiveValType>, Stop> {
     use PrimitiveValType::{ErrorContext, F32, F64};
-    Ok(primitive(scope, ty)?.is_some_and(|ty| !matches!(ty, F32 | F64 | ErrorContext)))
+    Ok(primitive(scope, ty)?.filter(|ty| !matches!(ty, F32 | F64 | ErrorContext)))
 }
 
 /// Returns whether a definition is imported, or exported by what is imported.
