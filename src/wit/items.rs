@@ -223,7 +223,7 @@ impl<'s, 'a> Writer<'s, 'a, '_> {
                 _ => matches!(self.own_resource(name, of), Ok(true)),
             };
             if !is_same {
-                self.part(note(of.place(), Why::Differs))?;
+                self.differs(&twin)?;
             }
         }
         is_own.map(|_| ())
@@ -259,8 +259,11 @@ impl<'s, 'a> Writer<'s, 'a, '_> {
     ) -> Written {
         let is_written = written.is_ok();
         self.part(written)?;
-        if !is_written {
-            self.fail(items.all[number].of)?;
+        let Item { of, name, .. } = items.all[number];
+        match (is_written, of.space()) {
+            (true, Some(Space::Types)) => self.keep(name.name.into())?,
+            (true, _) => {}
+            (false, _) => self.fail(of)?,
         }
         let mut next = number as u32;
         while let Some(twin) = items.twin(number, &mut next) {
@@ -271,15 +274,25 @@ impl<'s, 'a> Writer<'s, 'a, '_> {
             }
             let mut other = Text::default();
             let is_same = match put(self, &mut other, &twin) {
+                Ok(()) if twin.of.space() != of.space() => false,
                 Ok(()) => other.text == text.text || other.is_name(twin.name.name),
                 Err(Stop::Note(_)) => false,
                 Err(stop) => return Err(stop),
             };
-            if !is_same {
-                self.part(note(twin.of.place(), Why::Differs))?;
+            match is_same {
+                true if of.space() == Some(Space::Types) => self.keep(name.name.into())?,
+                true => {}
+                false => self.differs(&twin)?,
             }
         }
         if is_written { self.line(&text.text) } else { Ok(()) }
+    }
+
+    /// Notes that an item isn't as in another instance of its interface.
+    fn differs(&mut self, twin: &Item<'s, 'a>) -> Written {
+        self.at(twin);
+        self.fail(twin.of)?;
+        self.part(note(twin.of.place(), Why::Differs))
     }
 
     /// Notes what is said of a name that WIT has no form for.

@@ -215,7 +215,7 @@ impl<'s, 'a> Writer<'s, 'a, '_> {
     }
 
     /// Gives all that were seen when a type was looked for this name.
-    fn keep(&mut self, name: TypeName<'a>) -> Written {
+    pub fn keep(&mut self, name: TypeName<'a>) -> Written {
         for at in 0..self.seen.len() {
             self.local.types.insert(self.seen[at], name)?;
         }
@@ -260,7 +260,7 @@ impl<'s, 'a> Writer<'s, 'a, '_> {
         Ok(name)
     }
 
-    /// Appends a type with a name, other than a resource.
+    /// Appends a type with a name, other than a resource. What was seen is the same as it.
     pub fn named_type(
         &mut self,
         text: &mut Text,
@@ -268,20 +268,13 @@ impl<'s, 'a> Writer<'s, 'a, '_> {
         of: Definition<'s, 'a>,
     ) -> Written {
         match self.find(of, true)? {
-            Found::Name(other) => {
-                self.keep(name.into())?;
-                text.put(format_args!("type {} = {other};", Id(name)))
-            }
-            Found::Use(owner) => {
-                self.use_type(text, &owner, name.into())?;
-                self.keep(name.into())
-            }
+            Found::Name(other) => text.put(format_args!("type {} = {other};", Id(name))),
+            Found::Use(owner) => self.use_type(text, &owner, name.into()),
             Found::Last(last) => {
                 let seen = core::mem::take(&mut self.seen);
                 let written = self.defined_type(text, name, last);
                 self.seen = seen;
-                written?;
-                self.keep(name.into())
+                written
             }
         }
     }
