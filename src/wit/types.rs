@@ -180,9 +180,15 @@ impl<'s, 'a> Writer<'s, 'a, '_> {
         imported.or_else(exported)
     }
 
-    /// Appends that a type of another interface is used under this name.
-    fn use_type(&mut self, text: &mut Text, of: &Owner<'s, 'a>, name: TypeName<'a>) -> Written {
-        let (place, original) = (of.of.place(), of.name);
+    /// Appends that a type of another interface is used under this name, for what is at this byte
+    /// offset.
+    fn use_type(
+        &mut self,
+        text: &mut Text,
+        (of, place): (&Owner<'s, 'a>, usize),
+        name: TypeName<'a>,
+    ) -> Written {
+        let original = of.name;
         let named = of.interface.and_then(|of| Some((of, self.named_interface(of)?)));
         let Some((number, (package, interface))) = named else { return Ok(()) };
         let Context { unit, interface: user, .. } = self.local.context;
@@ -223,7 +229,11 @@ impl<'s, 'a> Writer<'s, 'a, '_> {
     }
 
     /// Uses a type of an interface in the world, under a name that isn't there.
-    fn use_in_world(&mut self, of: &Owner<'s, 'a>) -> Result<TypeName<'a>, Stop> {
+    fn use_in_world(
+        &mut self,
+        of: &Owner<'s, 'a>,
+        place: usize,
+    ) -> Result<TypeName<'a>, Stop> {
         let original = of.name;
         self.seen.push_using(of.of)?;
         if let Some(name) = self.local.types.get(of.of) {
@@ -254,7 +264,7 @@ impl<'s, 'a> Writer<'s, 'a, '_> {
         }
         self.local.taken = Some(taken);
         let mut line = Text::default();
-        self.use_type(&mut line, of, name)?;
+        self.use_type(&mut line, (of, place), name)?;
         self.keep(name)?;
         self.line(&line.text)?;
         Ok(name)
@@ -269,7 +279,7 @@ impl<'s, 'a> Writer<'s, 'a, '_> {
     ) -> Written {
         match self.find(of, true)? {
             Found::Name(other) => text.put(format_args!("type {} = {other};", Id(name))),
-            Found::Use(owner) => self.use_type(text, &owner, name.into()),
+            Found::Use(owner) => self.use_type(text, (&owner, of.place()), name.into()),
             Found::Last(last) => {
                 let seen = core::mem::take(&mut self.seen);
                 let written = self.defined_type(text, name, last);
@@ -288,16 +298,16 @@ impl<'s, 'a> Writer<'s, 'a, '_> {
         }
         let Context { interface, is_export, .. } = self.local.context;
         let [imported, exported] = [0, 1].map(|side| self.owners[side].get(last));
-        let is_own = |owner: Option<Owner>| owner.is_none_or(|of| of.interface == interface);
+        let is_own = |owner: Option<Owner>| owner.is_none_or(|owner| owner.interface == interface);
         if !is_own(imported) || is_export && !is_own(exported) {
             let known = imported.or(exported).and_then(|owner| owner.interface);
             return match known.and_then(|of| self.named_interface(of)) {
-                Some(_) => note(last.place(), Why::Dependency),
-                None => note(last.place(), Why::Nameless),
+                Some(_) => note(of.place(), Why::Dependency),
+                None => note(of.place(), Why::Nameless),
             };
         }
         if is_export && (imported.is_some() || of_import(last)) {
-            return note(last.place(), Why::Reexported);
+            return note(of.place(), Why::Reexported);
         }
         self.keep(name.into())?;
         Ok(true)
@@ -406,7 +416,7 @@ impl<'s, 'a> Writer<'s, 'a, '_> {
         let ty = match self.find(of, false)? {
             Found::Name(name) => return text.put(format_args!("{name}")),
             Found::Use(owner) => {
-                let name = self.use_in_world(&owner)?;
+                let name = self.use_in_world(&owner, of.place())?;
                 return text.put(format_args!("{name}"));
             }
             Found::Last(ty) => ty,
