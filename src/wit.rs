@@ -90,7 +90,7 @@ pub fn world(
         ends: Map::default(),
         borrowing: Map::default(),
         uses: Uses::default(),
-        failed: Map::default(),
+        failed: [Map::default(), Map::default()],
         is_dry: false,
         local: Local::new(context),
         seen: Vec::new(),
@@ -124,8 +124,8 @@ struct Writer<'s, 'a, 'o> {
     /// Whether values of these types have handles that are borrowed.
     borrowing: Map<'s, 'a, bool>,
     uses: Uses,
-    /// The types of interfaces that aren't written.
-    failed: Map<'s, 'a, ()>,
+    /// The types that aren't written, of imports and of exports.
+    failed: [Map<'s, 'a, ()>; 2],
     /// Whether nothing is written, to find those.
     is_dry: bool,
     local: Local<'s, 'a>,

@@ -28,15 +28,16 @@ class World:
                     setattr(self, block, None)
             else:
                 self.line(line)
-        for way, name in self.used:
-            functions = [(name, function) for function in self.interfaces[name]]
+        for way, key in self.used:
+            # one without a package may be imported, and another exported, under one name
+            functions = [(key.split()[-1], function) for function in self.interfaces[key]]
             (self.imports if way == "import" else self.exports).extend(functions)
 
     def open(self, line):
         """Begins a block. Returns what it is."""
         found = re.match(r"(import|export) (\S+): interface \{$", line)
         if found:
-            self.interface = found[2].replace("%", "")
+            self.interface = f"{found[1]} {found[2].replace('%', '')}"
             self.used.append((found[1], self.interface))
             return "interface"
         kind, name = line.split()[0], line.split()[1].replace("%", "")

@@ -84,6 +84,10 @@ class Judge:
             # the linker makes no intrinsics for functions that are asynchronous or have streams
             return "" if re.search(r"\b(async|stream|future|error-context)\b", text) else said
         first, again = parts(text), parts(self.world(component)[1])
+        # of an interface that is imported and exported, the import may have fewer items: only for
+        # the others it needs what is only exported
+        again = {part for part in again if (part[0], part[-1].replace("import", "export")) not in first
+                 or not part[-1].startswith("import ")}
         return "".join(f"there: {part}\n" for part in sorted(again - first))
 
 

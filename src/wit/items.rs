@@ -207,22 +207,22 @@ impl<'s, 'a> Writer<'s, 'a, '_> {
             return Ok(());
         }
         if is_own.is_err() {
-            self.failed.insert(of, ())?;
+            self.fail(of)?;
         }
         let mut next = number as u32;
         while let Some(twin) = items.twin(number, &mut next) {
+            self.at(&twin);
             if is_own.is_err() {
-                self.failed.insert(twin.of, ())?;
+                self.fail(twin.of)?;
                 continue;
             }
-            self.at(&twin);
             let of = twin.of;
             let is_same = match self.find(of, true)? {
                 Found::Name(other) => other == name.into(),
                 _ => matches!(self.own_resource(name, of), Ok(true)),
             };
             if !is_same {
-                self.part(note(of.place(), Why::Differs))?;
+                self.differs(&twin)?;
             }
         }
         is_own.map(|_| ())
@@ -234,7 +234,8 @@ impl<'s, 'a> Writer<'s, 'a, '_> {
         item.is_done = true;
         let item = &items.all[number];
         if item.first as usize != number {
-            self.failed.insert(item.of, ())?;
+            self.at(item);
+            self.fail(item.of)?;
             return self.part(note(item.of.place(), Why::Taken));
         }
         self.extras(item)?;
@@ -257,26 +258,40 @@ impl<'s, 'a> Writer<'s, 'a, '_> {
     ) -> Written {
         let is_written = written.is_ok();
         self.part(written)?;
-        if !is_written {
-            self.failed.insert(items.all[number].of, ())?;
+        let Item { of, name, .. } = items.all[number];
+        match (is_written, of.space()) {
+            (true, Some(Space::Types)) => self.keep(name.name.into())?,
+            (true, _) => {}
+            (false, _) => self.fail(of)?,
         }
         let mut next = number as u32;
         while let Some(twin) = items.twin(number, &mut next) {
+            self.at(&twin);
             if !is_written {
-                self.failed.insert(twin.of, ())?;
+                self.fail(twin.of)?;
                 continue;
             }
             let mut other = Text::default();
             let is_same = match put(self, &mut other, &twin) {
+                Ok(()) if twin.of.space() != of.space() => false,
                 Ok(()) => other.text == text.text || other.is_name(twin.name.name),
                 Err(Stop::Note(_)) => false,
                 Err(stop) => return Err(stop),
             };
-            if !is_same {
-                self.part(note(twin.of.place(), Why::Differs))?;
+            match is_same {
+                true if of.space() == Some(Space::Types) => self.keep(name.name.into())?,
+                true => {}
+                false => self.differs(&twin)?,
             }
         }
         if is_written { self.line(&text.text) } else { Ok(()) }
+    }
+
+    /// Notes that an item isn't as in another instance of its interface.
+    fn differs(&mut self, twin: &Item<'s, 'a>) -> Written {
+        self.at(twin);
+        self.fail(twin.of)?;
+        self.part(note(twin.of.place(), Why::Differs))
     }
 
     /// Notes what is said of a name that WIT has no form for.

@@ -180,15 +180,21 @@ impl<'s, 'a> Writer<'s, 'a, '_> {
         imported.or_else(exported)
     }
 
-    /// Appends that a type of another interface is used under this name.
-    fn use_type(&mut self, text: &mut Text, of: &Owner<'s, 'a>, name: TypeName<'a>) -> Written {
-        let (place, original) = (of.of.place(), of.name);
+    /// Appends that a type of another interface is used under this name, for what is at this byte
+    /// offset.
+    fn use_type(
+        &mut self,
+        text: &mut Text,
+        (of, place): (&Owner<'s, 'a>, usize),
+        name: TypeName<'a>,
+    ) -> Written {
+        let original = of.name;
         let named = of.interface.and_then(|of| Some((of, self.named_interface(of)?)));
         let Some((number, (package, interface))) = named else { return Ok(()) };
         let Context { unit, interface: user, .. } = self.local.context;
         let is_exported = user.is_some_and(|user| self.is_exported(unit, user));
         let is_allowed = self.uses.allow(unit, (user, is_exported), number);
-        if !is_allowed || self.failed.get(of.of).is_some() {
+        if !is_allowed || self.failed[usize::from(of.is_export)].get(of.of).is_some() {
             return note(place, Why::Dependency);
         }
         // a package doesn't name itself
@@ -204,8 +210,18 @@ impl<'s, 'a> Writer<'s, 'a, '_> {
         text.put(format_args!("}};"))
     }
 
+    /// Keeps that a type of an interface isn't written, so that no other one uses it.
+    pub fn fail(&mut self, of: Definition<'s, 'a>) -> Written {
+        let Context { interface, is_export, .. } = self.local.context;
+        let side = usize::from(is_export);
+        match self.owners[side].get(of) {
+            Some(owner) if owner.interface == interface => self.failed[side].insert(owner.of, ()),
+            _ => Ok(()),
+        }
+    }
+
     /// Gives all that were seen when a type was looked for this name.
-    fn keep(&mut self, name: TypeName<'a>) -> Written {
+    pub fn keep(&mut self, name: TypeName<'a>) -> Written {
         for at in 0..self.seen.len() {
             self.local.types.insert(self.seen[at], name)?;
         }
@@ -213,8 +229,17 @@ impl<'s, 'a> Writer<'s, 'a, '_> {
     }
 
     /// Uses a type of an interface in the world, under a name that isn't there.
-    fn use_in_world(&mut self, of: &Owner<'s, 'a>) -> Result<TypeName<'a>, Stop> {
+    fn use_in_world(
+        &mut self,
+        of: &Owner<'s, 'a>,
+        place: usize,
+    ) -> Result<TypeName<'a>, Stop> {
         let original = of.name;
+        self.seen.push_using(of.of)?;
+        if let Some(name) = self.local.types.get(of.of) {
+            self.keep(name)?;
+            return Ok(name);
+        }
         let taken = match self.local.taken.take() {
             Some(taken) => taken,
             None => self.taken_names(self.units[self.local.context.unit as usize].scope)?,
@@ -239,13 +264,13 @@ impl<'s, 'a> Writer<'s, 'a, '_> {
         }
         self.local.taken = Some(taken);
         let mut line = Text::default();
-        self.use_type(&mut line, of, name)?;
+        self.use_type(&mut line, (of, place), name)?;
         self.keep(name)?;
         self.line(&line.text)?;
         Ok(name)
     }
 
-    /// Appends a type with a name, other than a resource.
+    /// Appends a type with a name, other than a resource. What was seen is the same as it.
     pub fn named_type(
         &mut self,
         text: &mut Text,
@@ -253,20 +278,13 @@ impl<'s, 'a> Writer<'s, 'a, '_> {
         of: Definition<'s, 'a>,
     ) -> Written {
         match self.find(of, true)? {
-            Found::Name(other) => {
-                self.keep(name.into())?;
-                text.put(format_args!("type {} = {other};", Id(name)))
-            }
-            Found::Use(owner) => {
-                self.use_type(text, &owner, name.into())?;
-                self.keep(name.into())
-            }
+            Found::Name(other) => text.put(format_args!("type {} = {other};", Id(name))),
+            Found::Use(owner) => self.use_type(text, (&owner, of.place()), name.into()),
             Found::Last(last) => {
                 let seen = core::mem::take(&mut self.seen);
                 let written = self.defined_type(text, name, last);
                 self.seen = seen;
-                written?;
-                self.keep(name.into())
+                written
             }
         }
     }
@@ -280,16 +298,16 @@ impl<'s, 'a> Writer<'s, 'a, '_> {
         }
         let Context { interface, is_export, .. } = self.local.context;
         let [imported, exported] = [0, 1].map(|side| self.owners[side].get(last));
-        let is_own = |owner: Option<Owner>| owner.is_none_or(|of| of.interface == interface);
+        let is_own = |owner: Option<Owner>| owner.is_none_or(|owner| owner.interface == interface);
         if !is_own(imported) || is_export && !is_own(exported) {
             let known = imported.or(exported).and_then(|owner| owner.interface);
             return match known.and_then(|of| self.named_interface(of)) {
-                Some(_) => note(last.place(), Why::Dependency),
-                None => note(last.place(), Why::Nameless),
+                Some(_) => note(of.place(), Why::Dependency),
+                None => note(of.place(), Why::Nameless),
             };
         }
         if is_export && (imported.is_some() || of_import(last)) {
-            return note(last.place(), Why::Reexported);
+            return note(of.place(), Why::Reexported);
         }
         self.keep(name.into())?;
         Ok(true)
@@ -398,7 +416,7 @@ impl<'s, 'a> Writer<'s, 'a, '_> {
         let ty = match self.find(of, false)? {
             Found::Name(name) => return text.put(format_args!("{name}")),
             Found::Use(owner) => {
-                let name = self.use_in_world(&owner)?;
+                let name = self.use_in_world(&owner, of.place())?;
                 return text.put(format_args!("{name}"));
             }
             Found::Last(ty) => ty,
@@ -435,8 +453,10 @@ impl<'s, 'a> Writer<'s, 'a, '_> {
                 self.value(text, scope, element)?;
                 return text.put(format_args!(", {length}>"));
             }
-            DefinedView::Map { key, .. } if !is_key(scope, key)? => return note(place, Why::Key),
-            DefinedView::Map { key, value } => ("map", [Some(key), Some(value)]),
+            DefinedView::Map { key, value } => match key_of(scope, key)? {
+                Some(key) => ("map", [Some(key.into()), Some(value)]),
+                None => return note(place, Why::Key),
+            },
             DefinedView::Option(ty) => ("option", [Some(ty), None]),
             DefinedView::Result { ok, err } => ("result", [ok, err]),
             DefinedView::Own(index) => return self.index(text, scope, index),
@@ -629,10 +649,10 @@ fn primitive(scope: Scope<'_, '_>, ty: Val) -> Result<Option<PrimitiveValType>, 
     }
 }
 
-/// Returns whether a map may have keys of this type.
-fn is_key(scope: Scope<'_, '_>, ty: Val) -> Result<bool, Stop> {
+/// Returns the type of a map's keys, which has no other name.
+fn key_of(scope: Scope<'_, '_>, ty: Val) -> Result<Option<PrimitiveValType>, Stop> {
     use PrimitiveValType::{ErrorContext, F32, F64};
-    Ok(primitive(scope, ty)?.is_some_and(|ty| !matches!(ty, F32 | F64 | ErrorContext)))
+    Ok(primitive(scope, ty)?.filter(|ty| !matches!(ty, F32 | F64 | ErrorContext)))
 }
 
 /// Returns whether a definition is imported, or exported by what is imported.

@@ -60,6 +60,7 @@ pub(super) struct Owner<'s, 'a> {
     /// The interface; `None` for a world.
     pub interface: Option<u32>,
     pub unit: u32,
+    pub is_export: bool,
     pub name: &'a str,
 }
 
@@ -161,7 +162,7 @@ impl<'s, 'a> Writer<'s, 'a, '_> {
             for (is_export, (name, of)) in imports.chain(exports(scope).map(|of| (true, of))) {
                 self.step(of.place())?;
                 if of.space() == Some(Space::Types) && !is_export {
-                    self.own(false, Owner { of, interface: None, unit, name: name.name })?;
+                    self.own(Owner { of, interface: None, unit, is_export, name: name.name })?;
                 }
                 let Some(interface) = self.numbers.get(of) else { continue };
                 let Ok(Some(scope)) = of.exports() else { continue };
@@ -171,8 +172,7 @@ impl<'s, 'a> Writer<'s, 'a, '_> {
                         continue;
                     }
                     let (interface, name) = (Some(interface), name.name);
-                    let owner = Owner { of, interface, unit, name };
-                    self.own(is_export, owner)?;
+                    self.own(Owner { of, interface, unit, is_export, name })?;
                 }
                 if is_export {
                     self.exported.push_using((unit, interface))?;
@@ -184,8 +184,8 @@ impl<'s, 'a> Writer<'s, 'a, '_> {
     }
 
     /// Stores where a type is named, if it isn't named before.
-    fn own(&mut self, is_export: bool, owner: Owner<'s, 'a>) -> Written {
-        let owners = &mut self.owners[usize::from(is_export)];
+    fn own(&mut self, owner: Owner<'s, 'a>) -> Written {
+        let owners = &mut self.owners[usize::from(owner.is_export)];
         owners.insert(owner.of, owner)?;
         match owner.of.resolve() {
             Ok(last) => owners.insert(last, owner),

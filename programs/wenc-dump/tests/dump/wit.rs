@@ -5,6 +5,7 @@
 #[path = "../../../../examples/first.rs"]
 mod first;
 mod reader;
+mod rows;
 
 use crate::corpus::{corpus, paths};
 use crate::{FUNCTION, component, dump};
@@ -131,7 +132,9 @@ fn what_has_no_form_in_wit_is_reported() {
     let cut = [FUNCTION, b"\x0a\x01\x01"].concat();
     let message = "bad item 0 at 0x1a in the section at 0x17: the section ends where an import is \
         expected";
-    expect(&cut, "  import f: func();\n", message);
+    let unread = "no WIT: items that can't be read at 0x1a";
+    let world = format!("  // {unread}\n  import f: func();\n");
+    expect(&cut, &world, &format!("{message}\n{unread}"));
     // a lifted function that may be function 0, after two that can't be read
     let lifted = b"\x07\x05\x01\x40\0\x01\0\x08\x03\x02\xff\xff\x08\x06\x01\0\0\0\0\0";
     let lifted = [&lifted[..], b"\x0b\x07\x01\0\x01f\x01\0\0"].concat();
@@ -218,4 +221,27 @@ fn large_types_are_reported() {
         assert!(err.starts_with("-: no WIT: a type that is too large at 0x"), "{err}");
         assert!(out.len() < 200 && out.contains("// no WIT: "), "{out}");
     }
+}
+
+/// Prints a component. Each comment in the text is a message, too.
+fn expect_document(name: &str, component: &[u8], document: &str) {
+    let (status, out, err) = dump(&["--wit"], component);
+    assert_eq!(out, document, "{name}");
+    let notes = document.lines().filter_map(|line| line.trim_start().strip_prefix("// "));
+    let messages: String = notes.map(|note| format!("-: {note}\n")).collect();
+    assert_eq!((status, err), (u8::from(!messages.is_empty()), messages), "{name}");
+}
+
+/// Each feature of WIT, by texts that the official parser reads (`gate/wit`).
+#[test]
+fn features_are_written_as_the_standard_has_them() {
+    for rows::Row { name, component, world, packages } in rows::rows() {
+        let document = format!("package root:component;\n\nworld root {{\n{world}}}\n{packages}");
+        let document = match name {
+            "versions" => document.replacen("root:component;", "root:component-n1;", 1),
+            _ => document,
+        };
+        expect_document(name, &component, &document);
+    }
+    expect_document("package", &rows::package(), rows::PACKAGE);
 }

@@ -268,8 +268,8 @@ fn notes() -> Vec<Row> {
                 of.function("f", &[], None);
             },
             "    // no WIT: a type without members at 0xd
-    // no WIT: a type without members at 0x16
-    // no WIT: a type without members at 0x1f
+    // no WIT: a type without members at 0x17
+    // no WIT: a type without members at 0x21
     f: func();
 "
         ),
@@ -285,15 +285,15 @@ fn notes() -> Vec<Row> {
                 of.method("[method]s.m", resource);
                 of.function("[static]s.m", &[], None);
             },
-            "    // no WIT: a name that is there already at 0x1e
+            "    // no WIT: a name that is there already at 0x1f
     resource s {
-      // no WIT: a name that is there already at 0x4f
+      // no WIT: a name that is there already at 0x59
       m: func();
-      // no WIT: a name that is there already at 0x7f
+      // no WIT: a name that is there already at 0x8c
     }
-    // no WIT: a name that is there already at 0xd
+    // no WIT: a name that is there already at 0xe
     g: func();
-    // no WIT: a name that is there already at 0x3a
+    // no WIT: a name that is there already at 0x3f
 "
         ),
         interface!(
@@ -310,13 +310,13 @@ fn notes() -> Vec<Row> {
             },
             "    type s = r;
     resource r {
-      // no WIT: a method without its resource at 0x22
-      // no WIT: a method without its resource at 0x3a
-      // no WIT: a constructor of another type at 0x51
-      // no WIT: a function of another kind at 0xb2
+      // no WIT: a method without its resource at 0x26
+      // no WIT: a method without its resource at 0x3f
+      // no WIT: a constructor of another type at 0x57
+      // no WIT: a function of another kind at 0xb8
     }
-    // no WIT: a function of no resource here at 0x73
-    // no WIT: a function of no resource here at 0x92
+    // no WIT: a function of no resource here at 0x78
+    // no WIT: a function of no resource here at 0x9d
 "
         ),
         interface!(
@@ -335,11 +335,11 @@ fn notes() -> Vec<Row> {
                     (0..3).flat_map(|n| names.map(|name| format!("{name}{n}"))).collect();
                 of.named("set", |ty| ty.flags(all.iter().map(|name| name.as_str())));
             },
-            "    // no WIT: more than 32 flags at 0x48
+            "    // no WIT: more than 32 flags at 0x49
     resource r;
-    // no WIT: a function that returns a borrowed handle at 0x1b
+    // no WIT: a function that returns a borrowed handle at 0x1f
     // no WIT: a map with keys of another type at 0x25
-    // no WIT: a stream with elements of another type at 0x36
+    // no WIT: a stream with elements of another type at 0x37
 "
         ),
         interface!(
@@ -351,11 +351,11 @@ fn notes() -> Vec<Row> {
                 of.function("aB", &[], None);
                 of.function("g", &[("a b", U32)], None);
             },
-            "    // no WIT: a name that isn't one of WIT at 0x11
-    // no WIT: a name that isn't one of WIT at 0x20
+            "    // no WIT: a name that isn't one of WIT at 0x12
+    // no WIT: a name that isn't one of WIT at 0x21
     // no WIT: a name that isn't one of WIT at 0x37
-    // no WIT: a name that isn't one of WIT at 0x46
-    // no WIT: a name that isn't one of WIT at 0x4e
+    // no WIT: a name that isn't one of WIT at 0x45
+    // no WIT: a name that isn't one of WIT at 0x4c
 "
         ),
         component!(
@@ -373,13 +373,13 @@ fn notes() -> Vec<Row> {
                     of.interface(name, |_| {});
                 }
             },
-            "  // no WIT: a name that isn't one of WIT at 0xf
-  // no WIT: a name that isn't one of WIT at 0x21
-  // no WIT: a name that isn't one of WIT at 0x3a
-  // no WIT: a name that isn't one of WIT at 0x4c
-  // no WIT: a name that isn't one of WIT at 0x5c
-  // no WIT: a name that isn't one of WIT at 0x79
-  // no WIT: a name that isn't one of WIT at 0x95
+            "  // no WIT: a name that isn't one of WIT at 0x10
+  // no WIT: a name that isn't one of WIT at 0x23
+  // no WIT: a name that isn't one of WIT at 0x3d
+  // no WIT: a name that isn't one of WIT at 0x50
+  // no WIT: a name that isn't one of WIT at 0x61
+  // no WIT: a name that isn't one of WIT at 0x7f
+  // no WIT: a name that isn't one of WIT at 0x9c
 ",
             ""
         ),
@@ -502,7 +502,7 @@ package a:b {
                 of.0.import("res", Ref::Type(TypeBounds::Eq(res)));
                 of.function("g", &[("p", Val::Type(rec))], None);
             },
-            "  // no WIT: a resource of an interface without a name at 0x24
+            "  // no WIT: a resource of an interface without a name at 0x4d
   record rec {
     x: u32,
   }
@@ -579,7 +579,7 @@ package a:b {
             "
 package a:b {
   interface x {
-    // no WIT: an item that differs between import and export at 0x14
+    // no WIT: an item that differs between import and export at 0x15
     f: func(b: string);
     g: func();
   }
@@ -612,13 +612,13 @@ package a:b {
     }
   }
   interface third {
-    // no WIT: a type of an interface that can't be used here at 0x47
+    // no WIT: a type of an interface that can't be used here at 0x66
   }
 }
 
 package c:d {
   interface second {
-    // no WIT: a type of an interface that can't be used here at 0x16
+    // no WIT: a type of an interface that can't be used here at 0x3c
   }
 }
 "
