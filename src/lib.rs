@@ -42,8 +42,9 @@
 //!
 //! The proofs are of the sources in `crates/`, from which this crate is made: a call that succeeds
 //! adds exactly the item that was passed, and returns that item's index in its space. A call that
-//! fails changes nothing. Unless one of them is a raw custom section, the added items in their
-//! order are the only reading of the finished bytes, and `list` returns that reading.
+//! fails changes nothing, except that an encoder may leave its type unfinished. Unless one of them
+//! is a raw custom section, the added items in their order are the only reading of the finished
+//! bytes, and `list` returns that reading.
 //!
 //! That the Rust code does the same rests on the eraser, which removes the contracts (`build`,
 //! checked by `tests/honest`), on the replacement of Rattle's standard library (`src/shim`), on

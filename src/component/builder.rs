@@ -26,9 +26,10 @@ use crate::proved::wasm_encoder as proved;
 /// kind share a section.
 ///
 /// Each call has two forms: the one with upstream's name panics if it fails, and the one with
-/// `try_` in front returns an [`Error`](crate::Error). A call that fails changes nothing. Every
-/// call can fail with [`NoMemory`](crate::Error::NoMemory); with [`TooMany`](crate::Error::TooMany)
-/// or [`TooLarge`](crate::Error::TooLarge) if a count, an index space or a list would exceed
+/// `try_` in front returns an [`Error`](crate::Error). A call that fails changes nothing, except
+/// that an encoder's may leave its type unfinished. Every call can fail with
+/// [`NoMemory`](crate::Error::NoMemory); with [`TooMany`](crate::Error::TooMany) or
+/// [`TooLarge`](crate::Error::TooLarge) if a count, an index space or a list would exceed
 /// 4294967295 members, or a string or a section 4294967295 bytes; and with
 /// [`Unfinished`](crate::Error::Unfinished) while a type isn't ended by its encoder. Other errors
 /// are listed per method.
