@@ -77,8 +77,8 @@ impl<'a> CountedWalk<'a> {
         self.walk.depth()
     }
 
-    /// Returns how many indices the component at this [`depth`](Self::depth) defines before the last
-    /// step; at the end, those of the outermost component.
+    /// Returns how many indices the component at this [`depth`](Self::depth) defines before the
+    /// last step; at the end, those of the outermost component.
     pub fn counts(&self) -> &IndexCounts {
         static NONE: IndexCounts = IndexCounts::NONE;
         self.counts.get(self.depth()).unwrap_or(&NONE)

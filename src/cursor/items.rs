@@ -21,7 +21,8 @@ pub struct Item<'a> {
     pub view: ItemView<'a>,
 }
 
-/// An iterator over the items of a section. It ends after an error. The items borrow from the component's bytes, and nothing is allocated.
+/// An iterator over the items of a section. It ends after an error. The items borrow from the
+/// component's bytes, and nothing is allocated.
 ///
 /// Needs the feature `walk`.
 #[derive(Clone)]

@@ -19,8 +19,8 @@ use core::ops::Range;
 /// Needs the feature `walk`.
 ///
 /// All byte offsets are counted from the start of the outermost component. Nothing is allocated up
-/// to depth 8, and from there on two numbers for each further depth. Indices are counted by the walk
-/// that [`counted`](Self::counted) returns.
+/// to depth 8, and from there on two numbers for each further depth. Indices are counted by the
+/// walk that [`counted`](Self::counted) returns.
 ///
 /// ```
 /// use wenc::{ReadError, Step, Walk};
@@ -40,7 +40,8 @@ use core::ops::Range;
 ///     _ => None,
 /// });
 /// let unread = unread.expect("the nested component is passed over");
-/// assert_eq!((unread.range, unread.error.to_string()), (10..21, "components more than 1 deep at 0xa".into()));
+/// assert_eq!(unread.range, 10..21);
+/// assert_eq!(unread.error.to_string(), "components more than 1 deep at 0xa");
 /// # Ok::<(), ReadError>(())
 /// ```
 #[derive(Clone)]
@@ -141,8 +142,8 @@ impl<'a> Walk<'a> {
         Ok(Self { bytes, limit, innermost, around, items: None, last: Last::Nothing })
     }
 
-    /// Returns the number of components around the one that the last step is of: 0 for the outermost
-    /// one. [`Step::Enter`] is of the component that has the nested one as an item, and
+    /// Returns the number of components around the one that the last step is of: 0 for the
+    /// outermost one. [`Step::Enter`] is of the component that has the nested one as an item, and
     /// [`Step::Leave`] as well.
     pub fn depth(&self) -> usize {
         self.around.len
@@ -203,8 +204,8 @@ impl<'a> Walk<'a> {
         Step::Enter(Item { range: start..end, view: ItemView::Component(bytes) })
     }
 
-    /// Enters the component of the section that was returned last, or opens the one that was entered
-    /// last.
+    /// Enters the component of the section that was returned last, or opens the one that was
+    /// entered last.
     #[inline(never)]
     fn settle(&mut self) -> Option<Step<'a>> {
         self.items = None;

@@ -7,8 +7,8 @@ use crate::tree::Node;
 use crate::view::ItemView;
 
 /// The number of indices that each index space of a component has before one of its items
-/// (component model, explainer, "Index Spaces"). A recursion group of core types has one for each of
-/// its types.
+/// (component model, explainer, "Index Spaces"). A recursion group of core types has one for each
+/// of its types.
 ///
 /// Needs the feature `walk`.
 ///
@@ -42,8 +42,8 @@ impl IndexCounts {
     /// No indices.
     pub(crate) const NONE: Self = Self([0; Space::ALL.len()]);
 
-    /// Returns the number of indices in a space; `None` after what can't be read and may define some
-    /// in it.
+    /// Returns the number of indices in a space; `None` after what can't be read and may define
+    /// some in it.
     pub fn of(&self, space: Space) -> Option<u64> {
         Some(self.0[space.number()]).filter(|count| *count != UNKNOWN)
     }
