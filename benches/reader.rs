@@ -3,8 +3,9 @@
 //!
 //!     cargo bench --offline --bench reader -- N HOW [grouped]
 //!
-//! HOW is `list`; `walk`, where items are borrowed; `steps`, with nested components; `counted`, where indices are counted, too; `members`, where each member of their lists is
-//! asked for, too; or `trees`, where items are owned.
+//! HOW is `list`; `walk`, where items are borrowed; `steps`, with nested components; `counted`,
+//! where indices are counted, too; `check`, where they are compared; `members`, where each member
+//! of lists is asked for; or `trees`, where items are owned.
 //!
 //! `count` counts the instructions that `work` takes.
 

@@ -20,8 +20,8 @@ pub struct CoreItem<'a> {
     pub view: CoreItemView<'a>,
 }
 
-/// What an item of a core module is, which borrows from the module (WebAssembly 3.0, binary format, "Import
-/// Section", "Export Section" and "Start Section").
+/// What an item of a core module is, which borrows from the module (WebAssembly 3.0, binary format,
+/// "Import Section", "Export Section" and "Start Section").
 ///
 /// Needs the feature `walk`.
 #[derive(Clone, Copy, Debug, PartialEq, Eq, Hash)]

@@ -65,7 +65,8 @@ impl<'a> CoreSections<'a> {
     ///
     /// # Errors
     ///
-    /// [`Part::Header`](crate::Part::Header) if the bytes don't begin with the header of a core module.
+    /// [`Part::Header`](crate::Part::Header) if the bytes don't begin with the header of a core
+    /// module.
     #[doc(alias = "parse")]
     pub fn new(module: &'a [u8]) -> Result<Self, ReadError> {
         let rest = behind_module_header(module)

@@ -24,8 +24,8 @@ pub use walk::{Step, Unread, Walk};
 ///
 /// Sections and items are read as [`list`](crate::list) reads them, but one at a time. Each comes
 /// with its range of byte offsets in the component. [`items`](Self::items) borrow from the
-/// component's bytes, and nothing is allocated. The iterator ends after an error; a [`Walk`] goes on
-/// after it, and enters nested components.
+/// component's bytes, and nothing is allocated. The iterator ends after an error; a [`Walk`] goes
+/// on after it, and enters nested components.
 ///
 /// The opcodes of some canonical functions, such as `thread.suspend-to`, have moved between
 /// releases: in components of older and newer tools these may be read as other functions, without

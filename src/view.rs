@@ -15,8 +15,8 @@
 //! allocates. A member that is requested twice is read twice, and the declarations of a nested type
 //! once more for each type around it.
 //!
-//! [`to_tree`](ItemView::to_tree) copies a value (feature `tree`); [`node`](ItemView::node) has its fields and its
-//! indices, without a copy.
+//! [`to_tree`](ItemView::to_tree) copies a value (feature `tree`); [`node`](ItemView::node) has its
+//! fields and its indices, without a copy.
 //!
 //! Equality and hashes are those of the values: lists are equal if their members are, however
 //! their numbers are padded.

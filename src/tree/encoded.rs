@@ -9,8 +9,8 @@ use core::ops::Range;
 impl Item<'_> {
     /// Calls a function with each value of the item that has bytes of its own, apart from those of
     /// the values within it, and with their byte offsets: a number, an index or a string with its
-    /// length, the count of a list, what tells the variant. They come in the order of the bytes, and
-    /// each byte of the item is in one range. Nothing is allocated.
+    /// length, the count of a list, what tells the variant. They come in the order of the bytes,
+    /// and each byte of the item is in one range. Nothing is allocated.
     ///
     /// `bytes` are those of the outermost component. Returns whether all bytes were told: `false`
     /// if these aren't the bytes that the item was read from.

@@ -84,8 +84,8 @@ pub(super) fn node_of<'n>(tree: &'n dyn Tree, place: Place<'n>) -> Node<'n> {
     }
 }
 
-/// Returns the layout of the value at this place, with its fields and their own places; or its node,
-/// if it has no shape.
+/// Returns the layout of the value at this place, with its fields and their own places; or its
+/// node, if it has no shape.
 #[inline(never)]
 pub(super) fn layout_of<'n>(
     tree: &'n dyn Tree,
@@ -401,7 +401,8 @@ enums! {
     CoreValType { I32, I64, F32, F64, V128, Ref(ty) [0] }
 
     DefinedTree = DefinedView {
-        Primitive(ty) [0], Record(fields), Variant(cases), Tuple(elements), Flags(names), Enum(names),
+        Primitive(ty) [0], Record(fields), Variant(cases), Tuple(elements),
+        Flags(names), Enum(names),
         List(element), FixedLengthList { element, length }, Map { key, value },
         Option(ty), Result { ok: option, err: option },
         Own(index: Types), Borrow(index: Types), Future(ty: option), Stream(ty: option),

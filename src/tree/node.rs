@@ -17,10 +17,9 @@ use core::ops::ControlFlow;
 /// An item, or a value within one, by its kind and its fields, from which programs can print it
 /// without a case for each type.
 ///
-/// [`ItemView::node`] and [`CoreItemView::node`] return an item's node, [`Child::node`] that of a value
-/// within. Names are those of the owned Rust types; the elements of lists are read one by one.
-/// Nothing is allocated.
-/// Types in items that were read are at most 100 deep.
+/// [`ItemView::node`] and [`CoreItemView::node`] return an item's node, [`Child::node`] that of a
+/// value within. Names are those of the owned Rust types; the elements of lists are read one by
+/// one. Nothing is allocated. Types in items that were read are at most 100 deep.
 ///
 /// ```
 /// use wenc::Sections;

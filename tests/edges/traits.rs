@@ -232,8 +232,9 @@ fn what_is_read_is_shared_by_threads() {
     all! { are_shared:
         tree::Node tree::Child tree::Fields tree::List tree::Scopes tree::IndexCounts
         scope::Definitions scope::Meaning
-        Sections SectionReader Items Walk CountedWalk Step Unread OutOfRange CoreSections CoreSection
-        CoreItems CoreItem DebugNames NamesReader ProducersReader Listing view::ItemView
+        Sections SectionReader Items Item Walk CountedWalk Step Unread OutOfRange CoreSections
+        CoreSection CoreItems CoreItem view::CoreItemView DebugNames NamesReader ProducersReader
+        Listing view::ItemView
         view::ComponentDecls view::InstanceDecls view::ListOf<u32> ItemTree Command tree::Built
         Cause Part Format Found First Unsupported
     }

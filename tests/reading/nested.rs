@@ -119,7 +119,8 @@ fn known(sections: &[u8], limit: usize) -> Vec<(Space, u64)> {
     Space::ALL.into_iter().filter_map(count).collect()
 }
 
-/// After what isn't read, the number of indices is known in the spaces in which it can't define any.
+/// After what isn't read, the number of indices is known in the spaces in which it can't define
+/// any.
 #[test]
 fn what_is_unread_may_define_indices() {
     // the type `u32`, in front and behind

@@ -43,8 +43,8 @@ fn nested(count: usize) -> Vec<u8> {
     [&Component::HEADER[..], &section.unwrap_or_default()].concat()
 }
 
-/// A walk asks for memory where more than eight components are around the next step; one that counts
-/// indices at each fourth, or where what it has doubles.
+/// A walk asks for memory where more than eight components are around the next step; one that
+/// counts indices at each fourth, or where what it has doubles.
 #[test]
 fn nested_components() {
     fn error(step: Step<'_>) -> Result<(), ReadError> {
