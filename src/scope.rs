@@ -198,7 +198,7 @@ impl fmt::Debug for Definitions<'_> {
 /// Needs the feature `scope`.
 ///
 /// What is written, [`Definitions`], may be shared by threads, each of which has instances of its
-/// own. No other than those of one may be compared. Each path of instances that is followed takes at most 72 bytes of memory until these are
+/// own; definitions of different ones aren't equal. Each path of instances that is followed takes at most 72 bytes of memory until these are
 /// dropped; there are at most 8192 paths, and one for each 20 bytes of the component.
 pub struct Instances<'s, 'a> {
     all: &'s Definitions<'a>,

@@ -144,6 +144,13 @@ fn reserved<T>(len: usize) -> Result<Vec<T>, ReadError> {
     Ok(all)
 }
 
+/// Returns this many numbers, all the same.
+pub(super) fn repeated(number: u32, len: usize) -> Result<Vec<u32>, ReadError> {
+    let mut all = reserved(len)?;
+    (0..len).try_for_each(|_| push(&mut all, number))?;
+    Ok(all)
+}
+
 impl<'a> Reader<'a> {
     fn new(bytes: &'a [u8]) -> Self {
         let (open, members, nested, sizes, entered) = Default::default();
@@ -281,7 +288,7 @@ impl<'a> Reader<'a> {
         }
         let more = match role {
             Role::Several => meaning.defined().map_or(0, |(_, count)| count),
-            _ if entry.has_link() => self.add_link(entry.place, &meaning),
+            _ if entry.has_link() => self.add_link(entry.place, &meaning)?,
             _ => 0,
         };
         self.define(Entry { more, ..entry })
@@ -289,7 +296,7 @@ impl<'a> Reader<'a> {
 
     /// Adds what is kept of a definition that has a name, or is the same as another one. Returns its
     /// number.
-    fn add_link(&mut self, place: usize, meaning: &Meaning<'a>) -> u32 {
+    fn add_link(&mut self, place: usize, meaning: &Meaning<'a>) -> Result<u32, ReadError> {
         let (number, name) = (self.sizes.links as u32, meaning.name());
         self.sizes.links += 1;
         self.sizes.names += usize::from(name.is_some());
@@ -300,9 +307,9 @@ impl<'a> Reader<'a> {
                 None => Target::Itself,
             };
             let ty = meaning.type_ref().and(meaning.type_index()).map(|(_, index)| index);
-            self.all.links.push(Link { name, ty, target });
+            push(&mut self.all.links, Link { name, ty, target })?;
         }
-        number
+        Ok(number)
     }
 
     /// Begins the scope of a definition, which may have arguments for the component or the module with
@@ -313,7 +320,7 @@ impl<'a> Reader<'a> {
         if !self.is_counting {
             let outer = self.open.last().map_or(NONE, |open| open.scope);
             let frame = Frame { outer, of, unread: usize::MAX, cut: usize::MAX, ..Frame::EMPTY };
-            self.all.frames.push(frame);
+            push(&mut self.all.frames, frame)?;
         }
         push(&mut self.open, Open { scope, opener, core_funcs: Some(0), unread: NONE })
     }
@@ -337,7 +344,7 @@ impl<'a> Reader<'a> {
         }
         if !self.is_counting {
             let scope = open.scope;
-            self.all.entries.push(Entry { scope, ..entry });
+            push(&mut self.all.entries, Entry { scope, ..entry })?;
             // as many as it has, until they are sorted
             self.all.frames[scope as usize].start += 1;
         }
@@ -353,10 +360,10 @@ impl<'a> Reader<'a> {
         }
         all.entries.sort_unstable_by_key(|entry| (entry.scope, entry.place, entry.len));
         all.order = reserved(all.entries.len())?;
-        all.order.extend(0..all.entries.len() as u32);
+        (0..all.entries.len() as u32).try_for_each(|number| push(&mut all.order, number))?;
         for scope in 0..all.frames.len() as u32 {
             all.number(scope);
-            all.sort(scope);
+            all.sort(scope)?;
         }
         all.follow()
     }
@@ -406,7 +413,7 @@ impl Definitions<'_> {
     }
 
     /// Sorts the entries of a scope by their spaces, and its exports by their names.
-    fn sort(&mut self, scope: u32) {
+    fn sort(&mut self, scope: u32) -> Result<(), ReadError> {
         let (start, end) = (self.frames[scope as usize].start, self.end_of(scope));
         let (entries, links) = (&self.entries, &self.links);
         let of_scope = &mut self.order[start as usize..end as usize];
@@ -418,7 +425,7 @@ impl Definitions<'_> {
             let entry = &entries[number as usize];
             let is_export = entry.has_link() && !matches!(entry.role, Role::Import | Role::Alias);
             if is_export && links[entry.more as usize].name.is_some() {
-                self.names.push(number);
+                push(&mut self.names, number)?;
             }
         }
         let name_of = |number| {
@@ -426,6 +433,7 @@ impl Definitions<'_> {
             (links[entry.more as usize].name, entry.space.map(Space::number), number)
         };
         sort(&mut self.names[from..], &|of, other| name_of(of).cmp(&name_of(other)));
+        Ok(())
     }
 }
 

@@ -310,11 +310,11 @@ impl<'a> Meaning<'a> {
             Self::CoreExport { kind, index, .. } => one(kind.into(), index),
             Self::Unread { .. } => {}
             _ if self.members().is_some() => {}
-            Self::Item(item) => item.node().each_index(|used| visit(used)),
+            Self::Item(item) => item.node().each_index(&mut *visit),
             Self::Declared { name, ty } => {
-                ItemView::Import { name, ty }.node().each_index(|used| visit(used));
+                ItemView::Import { name, ty }.node().each_index(&mut *visit);
             }
-            Self::Module(decl) => decl.node().each_index(|used| visit(used)),
+            Self::Module(decl) => decl.node().each_index(&mut *visit),
         }
     }
 

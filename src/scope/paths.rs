@@ -94,9 +94,8 @@ impl Paths {
 
     fn add(&mut self, path: Path) -> Result<u32, ReadError> {
         if self.table.len() <= 2 * self.all.len() {
-            let (mut table, len) = (Vec::new(), (4 * self.all.len()).next_power_of_two().max(8));
-            table.try_reserve_exact(len).map_err(|_| ReadError::memory())?;
-            table.resize(len, NONE);
+            let len = (4 * self.all.len()).next_power_of_two().max(8);
+            let mut table = super::build::repeated(NONE, len)?;
             for (number, path) in (0..).zip(&self.all) {
                 let slot = Self::slot(&table, &self.all, path.instance);
                 table[slot] = number;

@@ -55,7 +55,7 @@ fn raise(item: &mut ItemTree, by: u32) -> Vec<Seen> {
 
 /// The indices that are visited in the borrowed item.
 fn borrowed(item: &ItemTree) -> Result<Vec<Seen>, ReadError> {
-    let ItemTree::Component(bytes) = item else { panic!("it is a component") };
+    let ItemTree::Component(bytes) = item else { return Ok(Vec::new()) };
     let mut seen = Vec::new();
     ItemView::Component(bytes)
         .outer_indices(1, |used| seen.push((used.space, used.scope, used.index)))?;
