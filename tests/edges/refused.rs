@@ -5,6 +5,7 @@
 mod cursors;
 mod reading;
 mod views;
+mod worlds;
 
 use crate::refuse::{GRANTED, SINCE, calmly, refusing};
 use reading::refused;
