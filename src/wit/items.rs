@@ -201,6 +201,10 @@ impl<'s, 'a> Writer<'s, 'a, '_> {
         }
         self.at(item);
         let is_own = self.own_resource(name, of);
+        let is_own = match is_own {
+            Ok(_) | Err(Stop::Note(_)) => is_own,
+            Err(stop) => return Err(stop),
+        };
         let item = &mut items.all[number];
         (item.is_resource, item.is_done) = (matches!(is_own, Ok(true)), is_own.is_err());
         if matches!(is_own, Ok(false)) {
@@ -219,7 +223,11 @@ impl<'s, 'a> Writer<'s, 'a, '_> {
             let of = twin.of;
             let is_same = match self.find(of, true)? {
                 Found::Name(other) => other == name.into(),
-                _ => matches!(self.own_resource(name, of), Ok(true)),
+                _ => match self.own_resource(name, of) {
+                    Ok(is_own) => is_own,
+                    Err(Stop::Note(_)) => false,
+                    Err(stop) => return Err(stop),
+                },
             };
             if !is_same {
                 self.differs(&twin)?;

@@ -182,6 +182,15 @@ impl<T> From<AllocFailed<T>> for Stop {
     }
 }
 
+/// Returns what was followed, if it can be.
+pub(super) fn known<T>(followed: Result<T, ScopeFault>) -> Result<Option<T>, Stop> {
+    match followed {
+        Ok(of) => Ok(Some(of)),
+        Err(ScopeFault::NoMemory { .. }) => Err(Stop::NoMemory),
+        Err(_) => Ok(None),
+    }
+}
+
 /// Returns the error of a part at this byte offset.
 pub(super) fn note<T>(place: usize, why: Why) -> Result<T, Stop> {
     Err(Stop::Note(Note { place, why }))

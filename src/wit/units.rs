@@ -1,7 +1,7 @@
 //! The worlds of a component, their interfaces, and where types are named.
 
 use super::names::{Package, compare, interface};
-use super::note::Stop;
+use super::note::{Stop, known};
 use super::{Writer, Written};
 use crate::scope::{Definition, Meaning, Scope};
 use crate::shim::vec::VecUsing;
@@ -84,23 +84,24 @@ pub(super) fn exports<'s, 'a>(scope: Scope<'s, 'a>) -> impl Iterator<Item = Name
 
 /// Returns the world or the interface of a package that is exported as the type of a component with
 /// it as the only export.
-fn unit_of<'s, 'a>(of: Definition<'s, 'a>) -> Option<Unit<'s, 'a>> {
-    let last = of.resolve().ok()?;
-    let Meaning::Item(ItemView::Type(TypeView::Component(_))) = last.meaning() else {
-        return None;
+fn unit_of<'s, 'a>(of: Definition<'s, 'a>) -> Result<Option<Unit<'s, 'a>>, Stop> {
+    let Some(last) = known(of.resolve())? else { return Ok(None) };
+    let (Meaning::Item(ItemView::Type(TypeView::Component(_))), Some(scope)) =
+        (last.meaning(), last.inner())
+    else {
+        return Ok(None);
     };
-    let scope = last.inner()?;
     let mut all = exports(scope);
-    let ((name, export), None) = (all.next()?, all.next()) else { return None };
-    let (package, id) = interface(&name)?;
+    let (Some((name, export)), None) = (all.next(), all.next()) else { return Ok(None) };
+    let Some((package, id)) = interface(&name) else { return Ok(None) };
     let package = Some(package);
-    match export.space()? {
-        Space::Instances => Some(Unit { scope, package, world: None }),
-        Space::Components => {
-            Some(Unit { scope: export.exports().ok()??, package, world: Some(id) })
-        }
+    Ok(match export.space() {
+        Some(Space::Instances) => Some(Unit { scope, package, world: None }),
+        Some(Space::Components) => known(export.exports())?
+            .flatten()
+            .map(|scope| Unit { scope, package, world: Some(id) }),
         _ => None,
-    }
+    })
 }
 
 impl<'s, 'a> Writer<'s, 'a, '_> {
@@ -108,7 +109,7 @@ impl<'s, 'a> Writer<'s, 'a, '_> {
     pub fn find_units(&mut self, scope: Scope<'s, 'a>) -> Written {
         for (_, of) in exports(scope).filter(|(_, of)| of.space() == Some(Space::Types)) {
             self.step(of.place())?;
-            if let Some(unit) = unit_of(of) {
+            if let Some(unit) = unit_of(of)? {
                 self.units.push_using(unit)?;
                 self.packaged.insert(of, ())?;
             }
@@ -165,7 +166,7 @@ impl<'s, 'a> Writer<'s, 'a, '_> {
                     self.own(Owner { of, interface: None, unit, is_export, name: name.name })?;
                 }
                 let Some(interface) = self.numbers.get(of) else { continue };
-                let Ok(Some(scope)) = of.exports() else { continue };
+                let Some(scope) = known(of.exports())?.flatten() else { continue };
                 for (name, of) in exports(scope) {
                     self.step(of.place())?;
                     if of.space() != Some(Space::Types) {
@@ -187,9 +188,9 @@ impl<'s, 'a> Writer<'s, 'a, '_> {
     fn own(&mut self, owner: Owner<'s, 'a>) -> Written {
         let owners = &mut self.owners[usize::from(owner.is_export)];
         owners.insert(owner.of, owner)?;
-        match owner.of.resolve() {
-            Ok(last) => owners.insert(last, owner),
-            Err(_) => Ok(()),
+        match known(owner.of.resolve())? {
+            Some(last) => owners.insert(last, owner),
+            None => Ok(()),
         }
     }
 

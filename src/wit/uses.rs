@@ -8,7 +8,7 @@ use super::types::{Context, Found, Local};
 use super::{Written, Writer};
 use crate::shim::vec::VecUsing;
 use crate::tree::Space;
-use super::note::Stop;
+use super::note::{Stop, known};
 use super::units::{Instance, Owner, exports};
 use alloc::vec::Vec;
 use core::cmp::Ordering;
@@ -110,14 +110,18 @@ impl<'s, 'a> Writer<'s, 'a, '_> {
         for at in 0..self.instances.len() {
             let instance = self.instances[at];
             self.local = Local::new(Context::of(&instance));
-            let Ok(Some(scope)) = instance.of.exports() else { continue };
+            let Some(scope) = known(instance.of.exports())?.flatten() else { continue };
             for (_, of) in exports(scope) {
                 self.step(of.place())?;
                 if of.space() != Some(Space::Types) {
                     continue;
                 }
-                if let Ok(Found::Use(Owner { interface: Some(used), .. })) = self.find(of, true) {
-                    edges.push_using((instance.interface, used))?;
+                match self.find(of, true) {
+                    Ok(Found::Use(Owner { interface: Some(used), .. })) => {
+                        edges.push_using((instance.interface, used))?;
+                    }
+                    Ok(_) | Err(Stop::Note(_)) => {}
+                    Err(stop) => return Err(stop),
                 }
             }
         }

@@ -6,6 +6,7 @@ mod cursors;
 mod definitions;
 mod reading;
 mod views;
+mod worlds;
 
 use crate::refuse::{GRANTED, SINCE, calmly, refusing};
 use reading::refused;

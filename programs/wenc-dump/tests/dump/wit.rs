@@ -4,6 +4,7 @@
 #[allow(dead_code, reason = "a test needs no `main`")]
 #[path = "../../../../examples/first.rs"]
 mod first;
+mod damaged;
 mod reader;
 mod rows;
 
