@@ -13,9 +13,10 @@ import subprocess
 import sys
 from pathlib import Path
 
-TYPES = """bool char u8 u16 u32 u64 u128 usize i8 i16 i32 i64 i128 isize () (u8,u8) (u8,u8,u8) str &'static_str [u8]
-    &'static_[u8] [u8;2] ::std::vec::Vec<u8> ::std::vec::Vec<::std::string::String> ::std::string::String
-    ::std::option::Option<u8> ::std::option::Option<::std::option::Option<u8>> ::std::result::Result<u8,u8>
+TYPES = """bool char u8 u16 u32 u64 u128 usize i8 i16 i32 i64 i128 isize () (u8,u8) (u8,u8,u8) str
+    &'static_str [u8] &'static_[u8] [u8;2] ::std::vec::Vec<u8> ::std::vec::Vec<::std::string::String>
+    ::std::string::String ::std::option::Option<u8> ::std::result::Result<u8,u8>
+    ::std::option::Option<::std::option::Option<u8>>
     ::std::option::Option<&'static_u8> ::std::boxed::Box<u8> &'static_u8 &'static_mut_u8
     ::std::vec::IntoIter<u8> ::std::slice::Iter<'static,u8> ::std::str::Chars<'static>
     ::std::cmp::Ordering ::std::marker::PhantomData<u8> Own"""
@@ -57,10 +58,11 @@ for file in sorted(plain.rglob("*.rs")):
 asked = [(of.replace("_", " "), name) for of in TYPES.split() for name in names]
 lines = [f"fn _{n}() {{ let _ = <{of}>::{name}; }}" for n, (of, name) in enumerate(asked)]
 (room / "methods.rs").write_text("\n".join([SCOPE, *lines]))
-words = ["rustc", "--edition", "2024", "--crate-type", "lib", "--error-format", "short", "methods.rs"]
-said = subprocess.run(words, cwd=room, capture_output=True, text=True).stderr
+words = "rustc --edition 2024 --crate-type lib --error-format short methods.rs"
+said = subprocess.run(words.split(), cwd=room, capture_output=True, text=True).stderr
 none = {int(line) - 2 for line in re.findall(r"^methods\.rs:(\d+):\d+: error\[E0599\]", said, re.M)}
 found += [f"{of}::{name}" for n, (of, name) in enumerate(asked) if n not in none]
-counts = f"{len(names)} functions of {len(declared)} traits, {len(TYPES.split())} types, {len(types)} proved ones"
+counts = (f"{len(names)} functions of {len(declared)} traits, {len(TYPES.split())} types, "
+          f"{len(types)} proved ones")
 print("\n".join(found[:100]) or counts)
 sys.exit(1 if found or len(declared) < 10 else 0)

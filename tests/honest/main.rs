@@ -154,6 +154,13 @@ fn nothing_is_around_the_crates() {
     let declared = fs::read_to_string(erased::folder().join("crates.rs")).expect("it is there");
     let texts = |text: &str| lex(text).into_iter().map(|token| token.text).collect::<Vec<_>>();
     assert_eq!(texts(&declared), texts(&wanted));
+    // One that is defined before the crates would come before the prelude's.
+    for file in ["src/lib.rs", "src/proved.rs"] {
+        let path = Path::new(env!("CARGO_MANIFEST_DIR")).join(file);
+        let tokens = texts(&fs::read_to_string(path).expect("it is there"));
+        let mut words = tokens.iter().map(String::as_str);
+        assert!(!words.any(|word| ["macro_rules", "macro_use"].contains(&word)), "{file}");
+    }
 }
 
 /// In one file in five, if it is short: each token left out, changed, moved to the next line with
