@@ -13,6 +13,7 @@ use crate::proved::wenc_read::{Expected, NestedRefusal, Refusal};
 use crate::proved::wenc_view::{CoreInstanceView, ListOf, TypeView, View, type_at};
 use crate::shim::alloc::Global;
 use crate::shim::borrow::CowStr;
+use crate::shim::iter::Members;
 use crate::shim::string::{String, StringUsing};
 use crate::shim::vec::{Vec, VecUsing};
 use std::vec;
@@ -115,26 +116,26 @@ fn a_type_too_deep_is_a_fault() {
     assert_eq!(items.next().err(), Some(ListFault::TooDeep { place: 8 }));
 }
 
-/// What is read of these bytes, behind which nothing that could be read follows.
+/// The members that are read, whether or not the bytes behind them could be read, too.
 #[test]
 fn lists_have_their_members_alone() {
     let (list, _) = ListOf::<u32>::view_of(b"\x01\x05\x06\x07").unwrap();
     let mut members = list;
-    let read = [(); 3].map(|()| members.next());
+    let read = [(); 3].map(|()| Members::next(&mut members));
     assert_eq!(read, [Some(5), None, None]);
     let (instance, rest) = CoreInstanceView::view_of(b"\0\x05\x01\x01a\x12\x07").unwrap();
     let CoreInstanceView::Instantiate { module: 5, args } = instance else { panic!("it is one") };
     assert_eq!((args.left, args.count(), rest), (1, 1, &b""[..]));
-    let (TypeView::Component(mut decls), _) = type_at(9, b"\x41\x01\x01\x7f").unwrap() else {
-        panic!("it is a component type")
-    };
-    assert_eq!(decls.left, 1);
-    assert_eq!([(); 3].map(|()| decls.next().is_some()), [true, false, false]);
-    let (TypeView::Instance(mut decls), _) = type_at(9, b"\x42\x01\x01\x7f\x01\x7f").unwrap()
-    else {
-        panic!("it is an instance type")
-    };
-    assert_eq!([(); 3].map(|()| decls.next().is_some()), [true, false, false]);
+    for rest in [&b""[..], b"\x01\x7f"] {
+        let bytes = [b"\x41\x01\x01\x7f", rest].concat();
+        let Ok((TypeView::Component(mut decls), _)) = type_at(9, &bytes) else { panic!("it is") };
+        let counts = [(); 3].map(|()| (decls.left, Members::next(&mut decls).is_some()));
+        assert_eq!(counts, [(1, true), (0, false), (0, false)]);
+        let bytes = [b"\x42\x01\x01\x7f", rest].concat();
+        let Ok((TypeView::Instance(mut decls), _)) = type_at(9, &bytes) else { panic!("it is") };
+        let counts = [(); 3].map(|()| (decls.left, Members::next(&mut decls).is_some()));
+        assert_eq!(counts, [(1, true), (0, false), (0, false)]);
+    }
 }
 
 #[test]
