@@ -127,4 +127,5 @@ fn commands_are_swept() {
             assert_eq!(growths.contains(&Some(commands.len() / 2)), is_refused);
         }
     }
+    heap.refuse_none();
 }

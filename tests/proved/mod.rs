@@ -16,3 +16,4 @@ mod program;
 pub(crate) mod refusing;
 mod shim;
 mod sweeping;
+mod told;

@@ -37,7 +37,8 @@ pub fn unplanned<T>(call: impl FnOnce() -> T) -> T {
     result
 }
 
-/// The allocator, whose requests in this thread fail as planned.
+/// The allocator, whose requests in this thread fail as planned. A test that plans ends with
+/// `refuse_none`: without threads the next one runs in the same.
 pub type Refusing = Global;
 
 impl Global {

@@ -41,6 +41,7 @@ fn a_vector_asks_only_where_room_is_missing() {
     vec.insert_using(0, 2).expect("there is room");
     vec.extend_from_slice_using(&[3]).expect("there is room");
     assert_eq!((vec.as_slice(), vec.capacity(), heap.requests()), (&[2, 1, 3][..], room, 0));
+    heap.refuse_none();
 }
 
 #[test]
@@ -57,6 +58,7 @@ fn a_refused_vector_is_as_it_was() {
     assert!(Vec::from_slice(heap, &[1u8]).is_err());
     assert!((0..3).collect_using(heap).is_err());
     assert!(Vec::<u8>::with_capacity_using(heap, 1).is_err());
+    heap.refuse_none();
 }
 
 #[test]
@@ -136,6 +138,7 @@ fn texts_that_are_lent_or_owned() {
     assert_eq!(borrowed, owned);
     heap.refuse_all();
     assert!(borrowed.try_clone().is_ok() && owned.try_clone().is_err());
+    heap.refuse_none();
     assert_eq!(CowStr::from(Cow::from("b")).as_str(), "b");
     assert_eq!(CowStr::from(Cow::from(RustString::from("c"))).as_str(), "c");
 }
@@ -147,6 +150,7 @@ fn copies_that_may_be_refused() {
     assert_eq!(text.try_clone().map(|copy| copy == text), Ok(true));
     heap.refuse_all();
     assert!(text.try_clone().is_err());
+    heap.refuse_none();
     assert_eq!(TryClone::try_clone(&Some(Global)), Ok(Some(Global)));
     assert_eq!(TryClone::try_clone(&None::<String>).map(|none| none.is_none()), Ok(true));
     assert_eq!(AllocError::from(AllocFailed { value: 1 }), AllocError);
@@ -175,6 +179,7 @@ fn digits() {
     let heap = Refusing::new();
     heap.refuse_all();
     assert_eq!(hex::decode(heap, "00").err(), Some(FromHexError::OutOfMemory));
+    heap.refuse_none();
 }
 
 #[test]

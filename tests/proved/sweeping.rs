@@ -52,6 +52,7 @@ pub fn check<E: Encode>(value: &E, wanted: &[u8]) {
         heap.refuse_all();
         value.encode(&mut sink).unwrap();
         assert!(sink.is_empty() && heap.requests() == 0);
+        heap.refuse_none();
     } else {
         assert_eq!(sweep_encode(value), wanted);
     }

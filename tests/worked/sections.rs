@@ -33,13 +33,15 @@ type Row = (fn() -> Component, &'static str);
 
 macro_rules! rows {
     ($($section:expr => |$s:ident| $calls:expr, $bytes:literal;)*) => {
-        [$((|| {
+        [$((|| match $section {
+            // What a section borrows has to live as long. With Rust 1.85 `let` would drop it.
             #[allow(unused_mut, reason = "there may be no calls")]
-            let mut $s = $section;
-            _ = $calls;
-            let mut component = Component::new();
-            component.section(&$s);
-            component
+            mut $s => {
+                _ = $calls;
+                let mut component = Component::new();
+                component.section(&$s);
+                component
+            }
         }, $bytes)),*]
     };
 }

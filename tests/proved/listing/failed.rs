@@ -104,6 +104,7 @@ fn listings() {
     let bytes = component(b"\x06\x01\0");
     let found = fault(heap, &bytes);
     assert!(matches!(found, (ListRefusal::Memory, ListFault::Memory)));
+    heap.refuse_none();
 }
 
 #[test]

@@ -148,6 +148,7 @@ fn refused(heap: Refusing, members: usize, lead: &[u8], calls: &[Call], n: u64) 
         assert_eq!(holder.as_slice(), bytes);
     }
     assert_eq!(refused.is_some(), heap.was_refused());
+    heap.refuse_none();
     let added = if calls.len() > 1 { 2 } else { 1 };
     assert!(holder.is_finished() && holder.len() as usize == members + added);
     refused

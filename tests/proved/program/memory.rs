@@ -94,4 +94,5 @@ fn runs_want_memory() {
     for row in SWEEPS {
         refuse_each(heap, row);
     }
+    heap.refuse_none();
 }
