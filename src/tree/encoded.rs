@@ -5,6 +5,27 @@ use super::node::{Child, Fields};
 use crate::Item;
 use core::ops::Range;
 
+/// A step through the bytes of an item, as [`Item::each_encoded_part`] makes them.
+#[derive(Clone, Copy, Debug)]
+#[non_exhaustive]
+pub enum Encoded<'a> {
+    /// A value begins: the item itself, or one within the value that is open.
+    Begin {
+        /// The name of the field that it is; empty for elements and what options and variants have.
+        field: &'static str,
+        /// The byte offset of its first byte, also if it has none.
+        offset: usize,
+        /// The value. What other bytes tell has none of its own, such as whether a function is
+        /// asynchronous.
+        node: Node<'a>,
+    },
+    /// The byte offsets of some bytes of the value that is open, apart from those of values within
+    /// it.
+    Bytes(usize, usize),
+    /// The value that is open ends.
+    End,
+}
+
 impl Item<'_> {
     /// Calls a function with each value of the item that has bytes of its own, apart from those of
     /// the values within it, and with their byte offsets: a number, an index or a string with its
@@ -32,10 +53,46 @@ impl Item<'_> {
         bytes: &[u8],
         mut visit: impl FnMut(Range<usize>, Node<'_>),
     ) -> bool {
+        self.told(bytes, &mut |step, node| {
+            if let Encoded::Bytes(start, end) = step {
+                visit(start..end, node);
+            }
+        })
+    }
+
+    /// Calls a function with each value of the item as it begins and ends, and with its bytes
+    /// between, in their order: the values of [`each_encoded`](Self::each_encoded) with those
+    /// around them and the names of fields. Nothing is allocated.
+    ///
+    /// `bytes` are those of the outermost component. Returns whether all bytes were told.
+    ///
+    /// ```
+    /// use wenc::tree::Encoded;
+    /// use wenc::{ReadError, Sections};
+    ///
+    /// // the type of a function, and an import of such a function
+    /// let component = b"\0asm\x0d\0\x01\0\x07\x05\x01\x40\0\x01\0\x0a\x06\x01\0\x01f\x01\0";
+    /// let item = Sections::new(component)?.items().nth(1).expect("an item")?;
+    /// let mut fields = Vec::new();
+    /// assert!(item.each_encoded_part(component, |step| {
+    ///     if let Encoded::Begin { field, offset, .. } = step {
+    ///         fields.push((field, offset));
+    ///     }
+    /// }));
+    /// // the import, its name with options, that name, its type, and the index of that
+    /// let [.., name, ty, index] = fields[..] else { panic!("it has fields") };
+    /// assert_eq!((name, ty, index), (("name", 19), ("ty", 21), ("", 22)));
+    /// # Ok::<(), ReadError>(())
+    /// ```
+    pub fn each_encoded_part(&self, bytes: &[u8], mut visit: impl FnMut(Encoded<'_>)) -> bool {
+        self.told(bytes, &mut |step, _| visit(step))
+    }
+
+    fn told(&self, bytes: &[u8], visit: &mut dyn FnMut(Encoded<'_>, Node<'_>)) -> bool {
         let Some(bytes) = bytes.get(..self.range.end) else { return false };
-        let (at, visit, is_wrong) = (self.range.start, &mut visit, false);
+        let (at, is_wrong) = (self.range.start, false);
         let mut places = Places { bytes, at, visit, is_wrong };
-        places.node(self.view.node(), ITEM);
+        places.value("", self.view.node(), ITEM);
         !places.is_wrong && places.at == bytes.len()
     }
 }
@@ -67,7 +124,7 @@ struct Places<'v> {
     bytes: &'v [u8],
     /// The byte offset of the next value.
     at: usize,
-    visit: &'v mut dyn FnMut(Range<usize>, Node<'_>),
+    visit: &'v mut dyn FnMut(Encoded<'_>, Node<'_>),
     is_wrong: bool,
 }
 
@@ -77,7 +134,7 @@ impl Places<'_> {
         let end = self.at.saturating_add(len);
         self.is_wrong |= end > self.bytes.len();
         if !self.is_wrong && len > 0 {
-            (self.visit)(self.at..end, node);
+            (self.visit)(Encoded::Bytes(self.at, end), node);
             self.at = end;
         }
     }
@@ -107,8 +164,23 @@ impl Places<'_> {
         self.own(before + text.len(), node);
     }
 
-    fn child(&mut self, child: Child<'_>, within: Within) {
-        self.node(child.node(), within);
+    fn child(&mut self, field: &'static str, child: Child<'_>, within: Within) {
+        self.value(field, child.node(), within);
+    }
+
+    fn value(&mut self, field: &'static str, node: Node<'_>, within: Within) {
+        (self.visit)(Encoded::Begin { field, offset: self.at, node }, node);
+        self.node(node, within);
+        (self.visit)(Encoded::End, node);
+    }
+
+    /// Takes those of these fields that bytes of another value tell.
+    fn implied(&mut self, fields: Fields<'_>, names: &[&str]) {
+        for (field, child) in fields.iter().filter(|(field, _)| names.contains(field)) {
+            let node = child.node();
+            (self.visit)(Encoded::Begin { field, offset: self.at, node }, node);
+            (self.visit)(Encoded::End, node);
+        }
     }
 
     /// Takes these fields of a value.
@@ -117,7 +189,7 @@ impl Places<'_> {
             let field = fields.iter().find(|(of, _)| of == name);
             self.is_wrong |= field.is_none();
             if let Some((name, child)) = field {
-                self.child(child, Within(owner, name));
+                self.child(name, child, Within(owner, name));
             }
         }
     }
@@ -130,7 +202,7 @@ impl Places<'_> {
             Node::Absent => self.own(within.option().1, node),
             Node::Present(child) => {
                 self.own(within.option().0, node);
-                self.child(child, within);
+                self.child("", child, within);
             }
             Node::Number(number) => self.number(Some(number), node),
             Node::Index { index, .. } | Node::OutOfRange { index, .. } => {
@@ -144,17 +216,17 @@ impl Places<'_> {
             Node::Flag(_) | Node::Word(_) => self.own(1, node),
             Node::List(list) => {
                 self.number(u64::try_from(list.len()).ok(), node);
-                list.for_each(|child| self.child(child, within));
+                list.for_each(|child| self.child("", child, within));
             }
             Node::Tuple(fields) => {
-                fields.iter().for_each(|(_, child)| self.child(child, Within("", "")));
+                fields.iter().for_each(|(name, child)| self.child(name, child, Within("", "")));
             }
             Node::Variant(name, child) => {
                 self.own(tag_of(name, child.node(), within), node);
                 if matches!(name, "WaitableSetWait" | "WaitableSetPoll") {
                     self.own(1, node);
                 }
-                self.child(child, Within(name, ""));
+                self.child("", child, Within(name, ""));
             }
             Node::Record(name, fields) => self.record(name, fields, node),
             Node::Struct(name, fields) => self.variant(name, fields, node, within),
@@ -192,16 +264,20 @@ impl Places<'_> {
                     self.fields(name, fields, &["is_final"]);
                     self.number(None, node);
                     self.fields(name, fields, &["supertype_idx"]);
+                } else {
+                    self.implied(fields, &["is_final"]);
                 }
                 self.fields(name, fields, &["composite_type"]);
             }
             "CoreTableType" => {
                 self.fields(name, fields, &["element_type"]);
                 self.own(1, node);
+                self.implied(fields, &["table64", "shared"]);
                 self.fields(name, fields, &["minimum", "maximum"]);
             }
             "CoreMemoryType" => {
                 self.own(1, node);
+                self.implied(fields, &["memory64", "shared"]);
                 self.fields(name, fields, &["minimum", "maximum"]);
             }
             "CoreTagType" => {
@@ -211,6 +287,8 @@ impl Places<'_> {
             "CoreRefType" => {
                 if matches!(self.byte(), 0x63 | 0x64) {
                     self.fields(name, fields, &["nullable"]);
+                } else {
+                    self.implied(fields, &["nullable"]);
                 }
                 self.fields(name, fields, &["heap_type"]);
             }
@@ -242,6 +320,7 @@ impl Places<'_> {
             // whether it is asynchronous is told by the first byte
             "Func" if fields.iter().any(|(name, _)| name == "is_async") => {
                 self.own(1, node);
+                self.implied(fields, &["is_async"]);
                 self.fields(name, fields, &["params", "result"]);
             }
             _ => {
@@ -258,7 +337,7 @@ impl Places<'_> {
     }
 
     fn in_order(&mut self, owner: &'static str, fields: Fields<'_>) {
-        fields.iter().for_each(|(name, child)| self.child(child, Within(owner, name)));
+        fields.iter().for_each(|(name, child)| self.child(name, child, Within(owner, name)));
     }
 }
 
