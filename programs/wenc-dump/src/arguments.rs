@@ -16,6 +16,7 @@ modules with their imports and exports. The file - is standard input.
       --check         also mark indices that are out of range
       --section=KIND  print only sections of this kind: a word as in the output, or an id
       --wit           print the world of components, as WIT
+      --html          print a page that shows the bytes, for a browser, of one or two files
       --json          print JSON, a line for each file
       --color=WHEN    colour the output: always, never or auto, on a terminal
       --width=N       fold items that don't fit in N columns
@@ -46,6 +47,7 @@ pub struct Options {
     pub check: bool,
     pub wit: bool,
     pub json: bool,
+    pub html: bool,
     /// The kinds of sections to print; all sections are printed if there are none.
     pub sections: Vec<Kind>,
     /// Whether to colour the output; `None` if only on a terminal.
@@ -111,6 +113,7 @@ pub fn request(mut arguments: impl Iterator<Item = OsString>) -> Result<Request,
             Some("--check") => options.check = true,
             Some("--wit") => options.wit = true,
             Some("--json") => options.json = true,
+            Some("--html") => options.html = true,
             Some("--") => are_files = true,
             _ if !are_files && is_option(&argument) => {
                 return Err(format!("no option {}", Escaped(&argument)));
@@ -118,7 +121,11 @@ pub fn request(mut arguments: impl Iterator<Item = OsString>) -> Result<Request,
             _ => options.files.push(argument),
         }
     }
-    if options.files.is_empty() { Err("no file".into()) } else { Ok(Request::Dump(options)) }
+    match options.files.len() {
+        0 => Err("no file".into()),
+        3.. if options.html => Err("a page has one file or two".into()),
+        _ => Ok(Request::Dump(options)),
+    }
 }
 
 /// Returns whether the argument begins with a hyphen, and isn't a hyphen alone.

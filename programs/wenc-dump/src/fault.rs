@@ -104,6 +104,16 @@ impl Fault {
         }
     }
 
+    /// Returns what is expected instead of the byte that is wrong, if it is one of few.
+    pub fn expected(&self) -> Option<String> {
+        match self.kind {
+            Kind::Read(ReadError { cause: Cause::Byte { expected, .. }, .. }) => {
+                Some(expected.to_string())
+            }
+            _ => None,
+        }
+    }
+
     /// Returns the exit status of the program.
     pub fn status(&self) -> u8 {
         match self.kind {

@@ -37,7 +37,7 @@ struct Open {
 }
 
 /// A string within quotes.
-struct Quoted<T>(T);
+pub(super) struct Quoted<T>(pub T);
 
 impl<T: Display> Display for Quoted<T> {
     fn fmt(&self, f: &mut fmt::Formatter<'_>) -> fmt::Result {
@@ -289,7 +289,7 @@ impl<'o> Json<'o> {
                 self.entry(entry)?;
                 Ok(Open { list: Some(""), has_unread: false, object: "}" })
             }
-            Part::Item { range, label, content, bytes } => {
+            Part::Item { range, label, content, bytes, .. } => {
                 self.member(range)?;
                 self.label(label.as_ref())?;
                 self.bytes("hex", bytes)?;

@@ -119,6 +119,7 @@ impl Walk<'_, '_> {
             label: space(item).map(|space| label(counts, space, 1, None)),
             content: Content::Node(&phrase::of_item(item.node()), &[]),
             bytes: &section.data[range.start - data_start..range.end - data_start],
+            item: None,
         })?;
         counts.define(space(item).map(|space| (space, 1)));
         self.report.close()

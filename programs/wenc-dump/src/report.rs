@@ -5,7 +5,7 @@ use super::fold::Names;
 use std::ffi::OsStr;
 use std::io;
 use std::ops::Range;
-use wenc::Producer;
+use wenc::{Item, Producer};
 use wenc::tree::{Node, Space, UsedIndex};
 
 /// A format of reports.
@@ -65,6 +65,8 @@ pub enum Part<'a> {
         content: Content<'a>,
         /// Its bytes; empty if parts of it are reported.
         bytes: &'a [u8],
+        /// The item itself; `None` of core modules.
+        item: Option<&'a Item<'a>>,
     },
     /// A part of a custom section.
     Entry(Entry<'a>),

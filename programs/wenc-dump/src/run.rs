@@ -4,6 +4,7 @@ use super::arguments::{HELP, Options, Request, USAGE, request};
 use super::buffer::Buffer;
 use super::escape::Escaped;
 use super::fault::{Fault, Kind};
+use super::html::{self, Data, Front};
 use super::json::Json;
 use super::report::Report;
 use super::select::Selected;
@@ -14,6 +15,7 @@ use std::ffi::{OsStr, OsString};
 use std::fmt::{self, Write as _};
 use std::fs;
 use std::io::{self, Read, Write};
+use std::path::Path;
 use wenc::Part;
 use wenc::scope::Definitions;
 
@@ -82,6 +84,9 @@ fn dump(
     streams: &mut Streams,
     status: &mut u8,
 ) -> io::Result<()> {
+    if options.html {
+        return page(options, streams, status);
+    }
     for file in &options.files {
         let name = Escaped(file);
         // messages that are written after the line of JSON that they would interrupt
@@ -122,6 +127,69 @@ impl Style {
             columns: options.columns.or(terminal.columns).unwrap_or(COLUMNS),
         }
     }
+}
+
+/// Prints files as a page of HTML, and raises the exit status to that of the worst fault.
+fn page(options: &Options, streams: &mut Streams, status: &mut u8) -> io::Result<()> {
+    let Streams { input, out, err } = streams;
+    let mut tell = |file: &OsStr, fault: &Fault| {
+        *status = fault.status().max(*status);
+        complain(*err, format_args!("{}: {fault}\n", Escaped(file)));
+    };
+    let mut files = Vec::new();
+    for file in &options.files {
+        match bytes_of(file, *input) {
+            Ok(bytes) => files.push((file, bytes)),
+            Err(error) => tell(file, &Fault::of_input(error)),
+        }
+    }
+    if files.len() < options.files.len() {
+        return Ok(());
+    }
+    let mut text = Front::default();
+    for (file, bytes) in &files {
+        let style = Style { has_titles: files.len() > 1, columns: COLUMNS, ..Style::default() };
+        let mut report = Text::new(&mut text, style);
+        // an error is that the text is long, or that memory runs out, which the data tells
+        let _ = report.begin(file).and_then(|()| walk(bytes, true, &mut report, &mut |_| {}));
+    }
+    // a path may tell more than its reader wants to
+    let name = |file| Path::new(Path::new(file).file_name().unwrap_or(file)).display().to_string();
+    let names: Vec<String> = files.iter().map(|(file, _)| name(file)).collect();
+    html::begin(*out, &names.join(", "), &text.0)?;
+    for (at, ((file, bytes), name)) in files.iter().zip(&names).enumerate() {
+        out.write_all(if at == 0 { b"" } else { b"," })?;
+        match data(bytes, &mut |fault| tell(file, fault), |data| data.print(*out, name)) {
+            Err(error) if error.kind() == io::ErrorKind::OutOfMemory => {
+                tell(file, &Kind::NoMemory.into());
+                out.write_all(b"null")?;
+            }
+            done => done?,
+        }
+    }
+    html::end(*out)?;
+    out.flush()
+}
+
+/// Collects the data of a file, and passes it on; calls `on_fault` with each fault.
+fn data(
+    bytes: &[u8],
+    on_fault: &mut dyn FnMut(&Fault),
+    print: impl FnOnce(Data) -> io::Result<()>,
+) -> io::Result<()> {
+    let mut is_whole = true;
+    let definitions = Definitions::past_faults(bytes, DEPTH, |error| is_whole &= !error.is_memory());
+    let instances = definitions.instances();
+    if !is_whole {
+        return Err(io::ErrorKind::OutOfMemory.into());
+    }
+    let (mut data, mut faults) = (Data::new(bytes, &instances)?, Vec::new());
+    walk(bytes, true, &mut data, &mut |fault| faults.push(fault))?;
+    for fault in &faults {
+        on_fault(fault);
+        data.fault(fault)?;
+    }
+    print(data)
 }
 
 /// Returns the bytes of a file.

@@ -220,7 +220,7 @@ impl<'o> Text<'o> {
                 let bytes = core.as_ref().map_or(&[][..], |core| core.bytes);
                 Ok((range.end - bytes.len(), bytes))
             }
-            Part::Item { range, label, content, bytes } => {
+            Part::Item { range, label, content, bytes, .. } => {
                 self.item(range, label.as_ref(), content)?;
                 Ok((range.start, bytes))
             }

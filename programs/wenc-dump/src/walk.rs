@@ -208,7 +208,7 @@ impl<'f> Walk<'f, '_> {
         let (own, range) = (names_of(bytes)?, item.range.clone());
         let label = Some(label(steps.counts(), Space::Components, 1, self.names.last()));
         let content = Content::Component(own.component());
-        self.report.open(&Part::Item { range, label, content, bytes: &[] })?;
+        self.report.open(&Part::Item { range, label, content, bytes: &[], item: Some(item) })?;
         self.begin(own, item.range.end)
     }
 
@@ -240,11 +240,12 @@ impl<'f> Walk<'f, '_> {
             }
             _ => (Content::Node(&node, &self.names), bytes),
         };
-        self.report.open(&Part::Item { range: range.clone(), label, content, bytes: shown })?;
+        let part = Part::Item { range, label, content, bytes: shown, item: Some(item) };
+        self.report.open(&part)?;
         self.check_item(item, steps)?;
         match view {
-            ItemView::Module(_) => self.module(range.start, bytes)?,
-            ItemView::Custom { .. } => self.custom(view, range.end)?,
+            ItemView::Module(bytes) => self.module(item.range.start, bytes)?,
+            ItemView::Custom { .. } => self.custom(view, item.range.end)?,
             _ => {}
         }
         self.report.close()

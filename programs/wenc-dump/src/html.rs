@@ -1,0 +1,420 @@
+//! A page of HTML that shows the bytes of a file, and needs nothing else.
+
+mod values;
+
+use super::buffer::Buffer;
+use super::check::OutOfRange;
+use super::fault::Fault;
+use super::json::Quoted;
+use super::report::{Content, Contents, Entry, Label, Part, Report, Rest};
+use std::fmt::{self, Display, Write as _};
+use std::hash::{DefaultHasher, Hasher};
+use std::io::{self, Write};
+use std::ops::Range;
+use values::{Numbered, Values};
+use wenc::Item;
+use wenc::scope::{Definition, Instances};
+use wenc::tree::UsedIndex;
+
+const STYLE: &str = include_str!("html/page.css");
+const SCRIPT: &str = include_str!("html/page.js");
+
+/// The SHA-256 digests of the style and the script, in base64.
+const HASHES: [&str; 2] = [
+    "8feBHdn69T5JklUpuJqrOIi2qcfu9QU/4za/rEj/1Ow=",
+    "Bz/sSga48fqpOjKXQKvU2f6gig4yz5hOI//n1OlminA=",
+];
+
+/// The number of bytes of a part without items above which only its ends are on the page, and the
+/// number of bytes of each end.
+const WHOLE: usize = 0x1_0000;
+const END: usize = 0x1000;
+
+/// The number of bytes of rows, and of items, after which there are rows of sections only, and the
+/// number of rows after which there are none.
+const BYTES: usize = 0x80_0000;
+const ITEMS: usize = 100_000;
+const ROWS: usize = 400_000;
+
+/// The number of faults that are shown.
+const FAULTS: usize = 1_000;
+
+/// The number of bytes of plain text for readers without scripts.
+const TEXT: usize = 0x8_0000;
+
+/// Text within HTML.
+pub struct Escaped<'a>(pub &'a str);
+
+impl Display for Escaped<'_> {
+    fn fmt(&self, f: &mut fmt::Formatter<'_>) -> fmt::Result {
+        self.0.chars().try_for_each(|letter| match letter {
+            '<' => f.write_str("&lt;"),
+            '>' => f.write_str("&gt;"),
+            '&' => f.write_str("&amp;"),
+            '"' => f.write_str("&quot;"),
+            '\'' => f.write_str("&#39;"),
+            '\n' => f.write_char(letter),
+            _ => write!(f, "{}", letter.escape_debug()),
+        })
+    }
+}
+
+/// A string of JSON, which doesn't end the script that it is in.
+struct Text<T>(T);
+
+impl<T: Display> Display for Text<T> {
+    fn fmt(&self, f: &mut fmt::Formatter<'_>) -> fmt::Result {
+        write!(Script(f), "{}", Quoted(&self.0))
+    }
+}
+
+struct Script<'f, 'a>(&'f mut fmt::Formatter<'a>);
+
+impl fmt::Write for Script<'_, '_> {
+    fn write_str(&mut self, text: &str) -> fmt::Result {
+        let mut parts = text.split('<');
+        parts.next().map_or(Ok(()), |part| self.0.write_str(part))?;
+        parts.try_for_each(|part| write!(self.0, "\\u003c{part}"))
+    }
+}
+
+/// Bytes in base64.
+struct Base64<'a>(&'a [u8]);
+
+impl Display for Base64<'_> {
+    fn fmt(&self, f: &mut fmt::Formatter<'_>) -> fmt::Result {
+        const LETTERS: &[u8; 64] =
+            b"ABCDEFGHIJKLMNOPQRSTUVWXYZabcdefghijklmnopqrstuvwxyz0123456789+/";
+        for three in self.0.chunks(3) {
+            let byte = |at: usize| three.get(at).map_or(0, |byte| usize::from(*byte));
+            let number = byte(0) << 16 | byte(1) << 8 | byte(2);
+            for at in 0..4 {
+                let letter = LETTERS[number >> (18 - 6 * at) & 63] as char;
+                f.write_char(if at > three.len() { '=' } else { letter })?;
+            }
+        }
+        Ok(())
+    }
+}
+
+/// The first bytes of a text; more of them are an error.
+#[derive(Default)]
+pub struct Front(pub Vec<u8>);
+
+impl Write for Front {
+    fn write(&mut self, bytes: &[u8]) -> io::Result<usize> {
+        let len = bytes.len().min(TEXT - self.0.len());
+        self.0.try_reserve(len)?;
+        self.0.extend(&bytes[..len]);
+        Ok(len)
+    }
+
+    fn flush(&mut self) -> io::Result<()> {
+        Ok(())
+    }
+}
+
+/// A fault by the byte offsets of the part and of what is wrong in it.
+struct Wrong {
+    place: usize,
+    cause: usize,
+    message: String,
+    expected: String,
+}
+
+/// A part that is open.
+struct Open {
+    row: usize,
+    /// The id of the section, of a component.
+    id: Option<u8>,
+}
+
+/// The data of a file on a page, as JSON.
+pub struct Data<'d, 'f> {
+    bytes: &'f [u8],
+    values: Values<'d, 'f>,
+    rows: Buffer,
+    /// The numbers of rows, and of those of items.
+    counts: (usize, usize),
+    /// The byte offset at which the last row begins.
+    last: usize,
+    open: Vec<Open>,
+    words: Numbered,
+    /// The bytes that aren't on the page.
+    cut: Vec<Range<usize>>,
+    wrong: Vec<Wrong>,
+    /// Whether rows or values are left out.
+    is_short: bool,
+}
+
+/// Kinds of rows.
+#[derive(Clone, Copy)]
+enum Kind {
+    Component,
+    Module,
+    Section,
+    Item,
+    Custom,
+    Entry,
+    Unread,
+}
+
+fn no_memory(_: fmt::Error) -> io::Error {
+    io::ErrorKind::OutOfMemory.into()
+}
+
+impl<'d, 'f> Data<'d, 'f> {
+    /// # Errors
+    ///
+    /// Fails if memory runs out, as what is done with the data does.
+    pub fn new(bytes: &'f [u8], instances: &'d Instances<'d, 'f>) -> io::Result<Self> {
+        let values = Values::new(bytes, instances).map_err(no_memory)?;
+        let (rows, words, open) = Default::default();
+        let (counts, last, cut, wrong) = ((0, 0), 0, Vec::new(), Vec::new());
+        Ok(Self { bytes, values, rows, counts, last, open, words, cut, wrong, is_short: false })
+    }
+
+    /// Adds a fault.
+    pub fn fault(&mut self, fault: &Fault) -> io::Result<()> {
+        let Some(place) = fault.place else { return Ok(()) };
+        let cause = fault.cause().map_or(place, |(cause, _)| cause);
+        let expected = fault.expected().unwrap_or_default();
+        self.wrong(Wrong { place, cause, message: fault.to_string(), expected })
+    }
+
+    fn wrong(&mut self, wrong: Wrong) -> io::Result<()> {
+        if self.wrong.len() < FAULTS {
+            self.wrong.try_reserve(1)?;
+            self.wrong.push(wrong);
+        }
+        Ok(())
+    }
+
+    /// Returns whether there is space for another row; without it the part's own parts are in the
+    /// part around it.
+    fn has_space(&mut self, is_item: bool) -> bool {
+        let is_long = self.rows.0.len() > BYTES || self.counts.1 >= ITEMS;
+        let is_full = is_item && is_long || self.counts.0 >= ROWS;
+        self.is_short |= is_full;
+        self.counts.1 += usize::from(is_item);
+        if is_full {
+            let Open { row, id } = *self.open.last().unwrap_or(&Open { row: 0, id: None });
+            self.open.push(Open { row, id });
+        }
+        !is_full
+    }
+
+    /// Begins a row: the distance to that around it, the byte offset as seen from the row before it,
+    /// the number of bytes, and the kind.
+    fn row(&mut self, range: &Range<usize>, kind: Kind) -> fmt::Result {
+        let around = self.open.last().map_or(0, |open| self.counts.0 - open.row);
+        let by = range.start as isize - self.last as isize;
+        let lead = if self.counts.0 == 0 { "[" } else { ",\n[" };
+        write!(self.rows, "{lead}{around},{by},{},{}", range.len(), kind as u8)?;
+        self.open.push(Open { row: self.counts.0, id: None });
+        self.counts.0 += 1;
+        self.last = range.start;
+        Ok(())
+    }
+
+    fn field(&mut self, value: impl Display) -> fmt::Result {
+        write!(self.rows, ",{value}")
+    }
+
+    /// Writes a text, or 0.
+    fn text(&mut self, text: Option<&str>) -> fmt::Result {
+        match text {
+            Some(text) => self.field(Text(text)),
+            None => self.field(0),
+        }
+    }
+
+    /// Cuts bytes without items to their ends.
+    fn cut(&mut self, bytes: Range<usize>) -> fmt::Result {
+        if bytes.len() > WHOLE {
+            self.cut.try_reserve(1).map_err(|_| fmt::Error)?;
+            self.cut.push(bytes.start + END..bytes.end - END);
+        }
+        Ok(())
+    }
+
+    /// Writes the indices of an item, or what there is instead of them, and a debug name.
+    fn label(&mut self, label: Option<&Label>, at: usize) -> fmt::Result {
+        let Some(label) = label else { return self.rows.write_str(",-1,-1,0,0") };
+        let word = self.words.number(format!("\"{}\"", label.space))?;
+        // definitions know more indices after an item that can't be read
+        let known = self.values.definitions.get(&at).and_then(|of| of.index()).map(u64::from);
+        let from = label.from.or(known).map_or(-1, i128::from);
+        write!(self.rows, ",{word},{from},{}", label.count)?;
+        self.text(label.name)
+    }
+
+    /// Writes the values of an item, and the byte offsets of what it is the same as, of the last of
+    /// these, of its type, and of the import that it comes from.
+    fn item(&mut self, item: &Item) -> fmt::Result {
+        let id = self.open.iter().rev().find_map(|open| open.id).unwrap_or(0);
+        let (shape, values) = self.values.item(id, item)?;
+        write!(self.rows, ",{shape},[{}]", values.strip_prefix(',').unwrap_or(""))?;
+        let Some(of) = self.values.definitions.get(&item.range.start) else { return Ok(()) };
+        let place = |found: Option<Definition>| {
+            found.map(Definition::place).filter(|place| *place != item.range.start).unwrap_or(0)
+        };
+        let same = place(of.target().ok().flatten());
+        let last = place(of.resolve().ok());
+        let ty = place(of.ty().ok().flatten());
+        let origin = place(of.origin().ok().flatten());
+        let last = if last == same { 0 } else { last };
+        if [same, last, ty, origin] == [0; 4] {
+            return Ok(());
+        }
+        write!(self.rows, ",{same},{last},{ty},{origin}")
+    }
+
+    fn part(&mut self, part: &Part) -> fmt::Result {
+        match part {
+            Part::File(range, Content::Component(name)) => {
+                self.row(range, Kind::Component)?;
+                self.label(None, 0)?;
+                self.text(*name)?;
+            }
+            Part::File(range, _) => self.row(range, Kind::Module)?,
+            Part::Section { range, id, word, count, core } => {
+                self.row(range, Kind::Section)?;
+                let word = word.map_or_else(|| format!("section {id}"), str::to_owned);
+                let word = self.words.number(format!("\"{word}\""))?;
+                let count = count.map_or(-1, i64::from);
+                let is_core = u8::from(core.is_some());
+                write!(self.rows, ",{word},{id},{count},{is_core}")?;
+                self.text(core.as_ref().and_then(|core| core.name))?;
+                if let Some(core) = core {
+                    self.cut(range.end - core.bytes.len()..range.end)?;
+                } else if let Some(open) = self.open.last_mut() {
+                    open.id = Some(*id);
+                }
+            }
+            Part::Item { range, content: Content::Custom(name, size, contents), .. } => {
+                self.row(range, Kind::Custom)?;
+                self.text(Some(name))?;
+                if *contents == Contents::Other {
+                    self.cut(range.end - size..range.end)?;
+                }
+            }
+            Part::Item { range, label, content, item, .. } => {
+                let (kind, name) = match content {
+                    Content::Component(name) => (Kind::Component, *name),
+                    Content::Module => (Kind::Module, None),
+                    _ => (Kind::Item, None),
+                };
+                self.row(range, kind)?;
+                self.label(label.as_ref(), range.start)?;
+                match (kind, item) {
+                    (Kind::Item, Some(item)) => self.item(item)?,
+                    (Kind::Item, None) => {}
+                    _ => self.text(name)?,
+                }
+            }
+            Part::Entry(Entry::Name(of, name)) => {
+                self.row(&(self.last..self.last), Kind::Entry)?;
+                let of = of.map(|(space, index)| format!("{space} {index}"));
+                self.text(Some(of.as_deref().unwrap_or("component")))?;
+                self.text(Some(name))?;
+            }
+            Part::Entry(Entry::Tool(tool)) => {
+                self.row(&(self.last..self.last), Kind::Entry)?;
+                self.text(Some(tool.field))?;
+                self.field(Text(format_args!("{} {}", tool.name, tool.version)))?;
+            }
+        }
+        self.rows.write_str("]")
+    }
+
+    /// Writes the object of the file with this name.
+    pub fn print(mut self, out: &mut dyn Write, name: &str) -> io::Result<()> {
+        let (size, is_short) = (self.bytes.len(), self.is_short);
+        write!(out, "{{\"file\":{},\"size\":{size},\"short\":{is_short},", Text(name))?;
+        write!(out, "\"words\":[{}],\n\"shapes\":[", self.words.all.0)?;
+        write!(out, "{}],\n\"expected\":[", self.values.shapes.all.0)?;
+        write!(out, "{}],\n\"rows\":[{}],\n\"faults\":[", self.values.expected.all.0, self.rows.0)?;
+        self.wrong.sort_by_key(|wrong| (wrong.place, wrong.cause));
+        let mut lead = "";
+        for Wrong { place, cause, message, expected } in &self.wrong {
+            write!(out, "{lead}[{place},{cause},{},\"{expected}\"]", Text(message))?;
+            lead = ",";
+        }
+        // the bytes before each that are cut, and a hash of these
+        let (mut from, mut lead) = (0, "],\n\"bytes\":[");
+        for cut in self.cut.iter().cloned().chain([size..size]) {
+            let mut hasher = DefaultHasher::new();
+            hasher.write(&self.bytes[cut.clone()]);
+            let hash = hasher.finish();
+            write!(out, "{lead}[{from},\"{}\",\"{hash:x}\"]", Base64(&self.bytes[from..cut.start]))?;
+            (from, lead) = (cut.end, ",");
+        }
+        out.write_all(b"]}")
+    }
+}
+
+/// Writes a page up to its data, for files of this name, with a text of what is in them.
+pub fn begin(out: &mut dyn Write, name: &str, text: &[u8]) -> io::Result<()> {
+    let [style, script] = HASHES;
+    let (name, more) = (Escaped(name), if text.len() < TEXT { "" } else { "\n(and more)\n" });
+    write!(
+        out,
+        "<!DOCTYPE html>\n<html lang=\"en\"><head><meta charset=\"utf-8\">\n\
+         <meta http-equiv=\"Content-Security-Policy\" content=\"default-src 'none'; \
+         style-src 'sha256-{style}'; script-src 'sha256-{script}'; base-uri 'none'; \
+         form-action 'none'\">\n\
+         <meta name=\"viewport\" content=\"width=device-width\">\n\
+         <meta name=\"color-scheme\" content=\"light dark\">\n\
+         <title>{name}</title>\n<style>{STYLE}</style></head>\n<body>\n\
+         <noscript><h1>{name}</h1>\n<pre>{text}{more}</pre></noscript>\n\
+         <script type=\"application/json\" id=\"data\">[",
+        text = Escaped(&String::from_utf8_lossy(text)),
+    )
+}
+
+/// Ends a page.
+pub fn end(out: &mut dyn Write) -> io::Result<()> {
+    write!(out, "]</script>\n<script>{SCRIPT}</script>\n</body></html>\n")
+}
+
+impl Report for Data<'_, '_> {
+    fn begin(&mut self, _: &std::ffi::OsStr) -> io::Result<()> {
+        Ok(())
+    }
+
+    fn open(&mut self, part: &Part) -> io::Result<()> {
+        self.open.try_reserve(1)?;
+        let is_item = !matches!(part, Part::File(..) | Part::Section { .. });
+        if self.has_space(is_item) { self.part(part).map_err(no_memory) } else { Ok(()) }
+    }
+
+    fn unread(&mut self, place: usize, what: &str, rest: Rest) -> io::Result<()> {
+        self.open.try_reserve(1)?;
+        let range = place..place + rest.bytes.len();
+        if self.has_space(true) {
+            self.row(&range, Kind::Unread).map_err(no_memory)?;
+            write!(self.rows, ",\"{what}\"]").map_err(no_memory)?;
+            self.cut(range).map_err(no_memory)?;
+        }
+        self.close()
+    }
+
+    fn out_of_range(&mut self, place: usize, index: &UsedIndex) -> io::Result<()> {
+        let message = OutOfRange(index).to_string();
+        self.wrong(Wrong { place, cause: place, message, expected: String::new() })
+    }
+
+    fn flush(&mut self) -> io::Result<()> {
+        Ok(())
+    }
+
+    fn close(&mut self) -> io::Result<()> {
+        self.open.pop();
+        Ok(())
+    }
+
+    fn end(&mut self, _: Option<&Fault>) -> io::Result<()> {
+        Ok(())
+    }
+}
