@@ -7,11 +7,12 @@ use super::check::OutOfRange;
 use super::fault::Fault;
 use super::json::Quoted;
 use super::report::{Content, Contents, Entry, Label, Part, Report, Rest};
+use std::ffi::OsStr;
 use std::fmt::{self, Display, Write as _};
 use std::hash::{DefaultHasher, Hasher};
 use std::io::{self, Write};
 use std::ops::Range;
-use values::{Numbered, Values};
+use values::Values;
 use wenc::Item;
 use wenc::scope::{Definition, Instances};
 use wenc::tree::UsedIndex;
@@ -47,16 +48,27 @@ pub struct Escaped<'a>(pub &'a str);
 
 impl Display for Escaped<'_> {
     fn fmt(&self, f: &mut fmt::Formatter<'_>) -> fmt::Result {
-        self.0.chars().try_for_each(|letter| match letter {
-            '<' => f.write_str("&lt;"),
-            '>' => f.write_str("&gt;"),
-            '&' => f.write_str("&amp;"),
-            '"' => f.write_str("&quot;"),
-            '\'' => f.write_str("&#39;"),
-            '\n' => f.write_char(letter),
-            _ => write!(f, "{}", letter.escape_debug()),
-        })
+        let mut rest = self.0;
+        while let Some(at) = rest.find(is_escaped) {
+            f.write_str(&rest[..at])?;
+            let mut letters = rest[at..].chars();
+            match letters.next() {
+                Some('<') => f.write_str("&lt;")?,
+                Some('>') => f.write_str("&gt;")?,
+                Some('&') => f.write_str("&amp;")?,
+                Some('"') => f.write_str("&quot;")?,
+                Some(letter) => write!(f, "{}", letter.escape_debug())?,
+                None => {}
+            }
+            rest = letters.as_str();
+        }
+        f.write_str(rest)
     }
+}
+
+/// Returns whether a character isn't itself in HTML, or may not be seen.
+fn is_escaped(letter: char) -> bool {
+    matches!(letter, '<' | '>' | '&' | '"') || !matches!(letter, ' '..='~' | '\n')
 }
 
 /// A string of JSON, which doesn't end the script that it is in.
@@ -130,8 +142,10 @@ struct Open {
 }
 
 /// The data of a file on a page, as JSON.
-pub struct Data<'d, 'f> {
+pub struct Data<'d, 'f, 't> {
     bytes: &'f [u8],
+    /// A report for readers without scripts, until it is too long.
+    text: Option<super::text::Text<'t>>,
     values: Values<'d, 'f>,
     rows: Buffer,
     /// The numbers of rows, and of those of items.
@@ -139,7 +153,7 @@ pub struct Data<'d, 'f> {
     /// The byte offset at which the last row begins.
     last: usize,
     open: Vec<Open>,
-    words: Numbered,
+    words: Vec<String>,
     /// The bytes that aren't on the page.
     cut: Vec<Range<usize>>,
     wrong: Vec<Wrong>,
@@ -163,15 +177,20 @@ fn no_memory(_: fmt::Error) -> io::Error {
     io::ErrorKind::OutOfMemory.into()
 }
 
-impl<'d, 'f> Data<'d, 'f> {
+impl<'d, 'f, 't> Data<'d, 'f, 't> {
     /// # Errors
     ///
     /// Fails if memory runs out, as what is done with the data does.
-    pub fn new(bytes: &'f [u8], instances: &'d Instances<'d, 'f>) -> io::Result<Self> {
+    pub fn new(
+        bytes: &'f [u8],
+        instances: &'d Instances<'d, 'f>,
+        text: super::text::Text<'t>,
+    ) -> io::Result<Self> {
+        let (text, is_short) = (Some(text), false);
         let values = Values::new(bytes, instances).map_err(no_memory)?;
         let (rows, words, open) = Default::default();
         let (counts, last, cut, wrong) = ((0, 0), 0, Vec::new(), Vec::new());
-        Ok(Self { bytes, values, rows, counts, last, open, words, cut, wrong, is_short: false })
+        Ok(Self { bytes, text, values, rows, counts, last, open, words, cut, wrong, is_short })
     }
 
     /// Adds a fault.
@@ -180,6 +199,12 @@ impl<'d, 'f> Data<'d, 'f> {
         let cause = fault.cause().map_or(place, |(cause, _)| cause);
         let expected = fault.expected().unwrap_or_default();
         self.wrong(Wrong { place, cause, message: fault.to_string(), expected })
+    }
+
+    fn tell(&mut self, what: impl FnOnce(&mut super::text::Text<'t>) -> io::Result<()>) {
+        if self.text.as_mut().is_some_and(|text| what(text).is_err()) {
+            self.text = None;
+        }
     }
 
     fn wrong(&mut self, wrong: Wrong) -> io::Result<()> {
@@ -238,10 +263,21 @@ impl<'d, 'f> Data<'d, 'f> {
         Ok(())
     }
 
+    /// Returns the number of a word for a section or a space, of which there are few.
+    fn word(&mut self, word: &dyn Display) -> Result<usize, fmt::Error> {
+        let word = word.to_string();
+        let known = self.words.iter().position(|known| *known == word);
+        if known.is_none() {
+            self.words.try_reserve(1).map_err(|_| fmt::Error)?;
+            self.words.push(word);
+        }
+        Ok(known.unwrap_or(self.words.len() - 1))
+    }
+
     /// Writes the indices of an item, or what there is instead of them, and a debug name.
     fn label(&mut self, label: Option<&Label>, at: usize) -> fmt::Result {
         let Some(label) = label else { return self.rows.write_str(",-1,-1,0,0") };
-        let word = self.words.number(format!("\"{}\"", label.space))?;
+        let word = self.word(&label.space)?;
         // definitions know more indices after an item that can't be read
         let known = self.values.definitions.get(&at).and_then(|of| of.index()).map(u64::from);
         let from = label.from.or(known).map_or(-1, i128::from);
@@ -280,8 +316,10 @@ impl<'d, 'f> Data<'d, 'f> {
             Part::File(range, _) => self.row(range, Kind::Module)?,
             Part::Section { range, id, word, count, core } => {
                 self.row(range, Kind::Section)?;
-                let word = word.map_or_else(|| format!("section {id}"), str::to_owned);
-                let word = self.words.number(format!("\"{word}\""))?;
+                let word = match word {
+                    Some(word) => self.word(word)?,
+                    None => self.word(&format_args!("section {id}"))?,
+                };
                 let count = count.map_or(-1, i64::from);
                 let is_core = u8::from(core.is_some());
                 write!(self.rows, ",{word},{id},{count},{is_core}")?;
@@ -332,7 +370,7 @@ impl<'d, 'f> Data<'d, 'f> {
     pub fn print(mut self, out: &mut dyn Write, name: &str) -> io::Result<()> {
         let (size, is_short) = (self.bytes.len(), self.is_short);
         write!(out, "{{\"file\":{},\"size\":{size},\"short\":{is_short},", Text(name))?;
-        write!(out, "\"words\":[{}],\n\"shapes\":[", self.words.all.0)?;
+        write!(out, "\"words\":{:?},\n\"shapes\":[", self.words)?;
         write!(out, "{}],\n\"expected\":[", self.values.shapes.all.0)?;
         write!(out, "{}],\n\"rows\":[{}],\n\"faults\":[", self.values.expected.all.0, self.rows.0)?;
         self.wrong.sort_by_key(|wrong| (wrong.place, wrong.cause));
@@ -354,10 +392,9 @@ impl<'d, 'f> Data<'d, 'f> {
     }
 }
 
-/// Writes a page up to its data, for files of this name, with a text of what is in them.
-pub fn begin(out: &mut dyn Write, name: &str, text: &[u8]) -> io::Result<()> {
-    let [style, script] = HASHES;
-    let (name, more) = (Escaped(name), if text.len() < TEXT { "" } else { "\n(and more)\n" });
+/// Writes a page up to its data, for files of this name.
+pub fn begin(out: &mut dyn Write, name: &str) -> io::Result<()> {
+    let ([style, script], name) = (HASHES, Escaped(name));
     write!(
         out,
         "<!DOCTYPE html>\n<html lang=\"en\"><head><meta charset=\"utf-8\">\n\
@@ -367,29 +404,34 @@ pub fn begin(out: &mut dyn Write, name: &str, text: &[u8]) -> io::Result<()> {
          <meta name=\"viewport\" content=\"width=device-width\">\n\
          <meta name=\"color-scheme\" content=\"light dark\">\n\
          <title>{name}</title>\n<style>{STYLE}</style></head>\n<body>\n\
-         <noscript><h1>{name}</h1>\n<pre>{text}{more}</pre></noscript>\n\
          <script type=\"application/json\" id=\"data\">[",
-        text = Escaped(&String::from_utf8_lossy(text)),
     )
 }
 
-/// Ends a page.
-pub fn end(out: &mut dyn Write) -> io::Result<()> {
-    write!(out, "]</script>\n<script>{SCRIPT}</script>\n</body></html>\n")
+/// Ends a page, with a text of what is in the files.
+pub fn end(out: &mut dyn Write, name: &str, Front(text): &Front) -> io::Result<()> {
+    let more = if text.len() < TEXT { "" } else { "\n(and more)\n" };
+    let (name, text) = (Escaped(name), String::from_utf8_lossy(text));
+    let text = Escaped(&text);
+    write!(out, "]</script>\n<noscript><h1>{name}</h1>\n<pre>{text}{more}</pre></noscript>\n")?;
+    write!(out, "<script>{SCRIPT}</script>\n</body></html>\n")
 }
 
-impl Report for Data<'_, '_> {
-    fn begin(&mut self, _: &std::ffi::OsStr) -> io::Result<()> {
+impl Report for Data<'_, '_, '_> {
+    fn begin(&mut self, file: &OsStr) -> io::Result<()> {
+        self.tell(|text| text.begin(file));
         Ok(())
     }
 
     fn open(&mut self, part: &Part) -> io::Result<()> {
+        self.tell(|text| text.open(part));
         self.open.try_reserve(1)?;
         let is_item = !matches!(part, Part::File(..) | Part::Section { .. });
         if self.has_space(is_item) { self.part(part).map_err(no_memory) } else { Ok(()) }
     }
 
     fn unread(&mut self, place: usize, what: &str, rest: Rest) -> io::Result<()> {
+        self.tell(|text| text.unread(place, what, rest));
         self.open.try_reserve(1)?;
         let range = place..place + rest.bytes.len();
         if self.has_space(true) {
@@ -397,10 +439,12 @@ impl Report for Data<'_, '_> {
             write!(self.rows, ",\"{what}\"]").map_err(no_memory)?;
             self.cut(range).map_err(no_memory)?;
         }
-        self.close()
+        self.open.pop();
+        Ok(())
     }
 
     fn out_of_range(&mut self, place: usize, index: &UsedIndex) -> io::Result<()> {
+        self.tell(|text| text.out_of_range(place, index));
         let message = OutOfRange(index).to_string();
         self.wrong(Wrong { place, cause: place, message, expected: String::new() })
     }
@@ -410,6 +454,7 @@ impl Report for Data<'_, '_> {
     }
 
     fn close(&mut self) -> io::Result<()> {
+        self.tell(Report::close);
         self.open.pop();
         Ok(())
     }

@@ -146,20 +146,17 @@ fn page(options: &Options, streams: &mut Streams, status: &mut u8) -> io::Result
     if files.len() < options.files.len() {
         return Ok(());
     }
-    let mut text = Front::default();
-    for (file, bytes) in &files {
-        let style = Style { has_titles: files.len() > 1, columns: COLUMNS, ..Style::default() };
-        let mut report = Text::new(&mut text, style);
-        // an error is that the text is long, or that memory runs out, which the data tells
-        let _ = report.begin(file).and_then(|()| walk(bytes, true, &mut report, &mut |_| {}));
-    }
     // a path may tell more than its reader wants to
     let name = |file| Path::new(Path::new(file).file_name().unwrap_or(file)).display().to_string();
     let names: Vec<String> = files.iter().map(|(file, _)| name(file)).collect();
-    html::begin(*out, &names.join(", "), &text.0)?;
+    let (name, mut text) = (names.join(", "), Front::default());
+    let style = Style { has_titles: files.len() > 1, columns: COLUMNS, ..Style::default() };
+    html::begin(*out, &name)?;
     for (at, ((file, bytes), name)) in files.iter().zip(&names).enumerate() {
         out.write_all(if at == 0 { b"" } else { b"," })?;
-        match data(bytes, &mut |fault| tell(file, fault), |data| data.print(*out, name)) {
+        let text = Text::new(&mut text, style);
+        let print = |data: Data| data.print(*out, name);
+        match data((file, bytes), text, &mut |fault| tell(file, fault), print) {
             Err(error) if error.kind() == io::ErrorKind::OutOfMemory => {
                 tell(file, &Kind::NoMemory.into());
                 out.write_all(b"null")?;
@@ -167,13 +164,14 @@ fn page(options: &Options, streams: &mut Streams, status: &mut u8) -> io::Result
             done => done?,
         }
     }
-    html::end(*out)?;
+    html::end(*out, &name, &text)?;
     out.flush()
 }
 
 /// Collects the data of a file, and passes it on; calls `on_fault` with each fault.
 fn data(
-    bytes: &[u8],
+    (file, bytes): (&OsStr, &[u8]),
+    text: Text,
     on_fault: &mut dyn FnMut(&Fault),
     print: impl FnOnce(Data) -> io::Result<()>,
 ) -> io::Result<()> {
@@ -183,7 +181,8 @@ fn data(
     if !is_whole {
         return Err(io::ErrorKind::OutOfMemory.into());
     }
-    let (mut data, mut faults) = (Data::new(bytes, &instances)?, Vec::new());
+    let (mut data, mut faults) = (Data::new(bytes, &instances, text)?, Vec::new());
+    data.begin(file)?;
     walk(bytes, true, &mut data, &mut |fault| faults.push(fault))?;
     for fault in &faults {
         on_fault(fault);

@@ -236,7 +236,10 @@ impl<'d, 'f> Writer<'_, 'd, 'f> {
         let unit = self.unit()?;
         let (kind, name, open) = unit.value(node)?;
         let lead = if unit.shape.0.is_empty() { "" } else { "," };
-        write!(unit.shape, "{lead}[\"{kind}\",\"{field}\",\"{name}\"")?;
+        for text in [lead, "[\"", kind, "\",\"", field, "\",\""] {
+            unit.shape.write_str(text)?;
+        }
+        write!(unit.shape, "{name}\"")?;
         unit.key = hash((unit.key, kind, field, name));
         self.open.push(Open::Other);
         bytes.map_or(Ok(()), |(start, end)| self.own(start, end))?;
@@ -251,15 +254,17 @@ impl<'d, 'f> Writer<'_, 'd, 'f> {
         let len = end - start - text;
         write!(self.unit()?.shape, ",{len}")?;
         if matches!(self.open.last(), Some(Open::Other)) && len <= TAG {
-            let mut numbers = Buffer::default();
-            for at in start..end {
-                let number = self.expected(at, at - start)?;
-                let lead = if at == start { "" } else { "," };
-                write!(numbers, "{lead}")?;
-                number.map_or(Ok(()), |number| write!(numbers, "{number}"))?;
+            let mut numbers = [None; TAG];
+            for (at, number) in numbers.iter_mut().take(len).enumerate() {
+                *number = self.expected(start + at, at)?;
             }
-            if numbers.0.contains(|letter: char| letter != ',') {
-                write!(self.unit()?.shape, ",\"{}\"", numbers.0)?;
+            if numbers != [None; TAG] {
+                let shape = &mut self.unit()?.shape;
+                for (at, number) in numbers.iter().take(len).enumerate() {
+                    shape.write_str(if at == 0 { ",\"" } else { "," })?;
+                    number.map_or(Ok(()), |number| write!(shape, "{number}"))?;
+                }
+                shape.write_str("\"")?;
             }
         }
         let unit = self.unit()?;
@@ -309,41 +314,41 @@ impl<'d, 'f> Writer<'_, 'd, 'f> {
 impl Unit<'_, '_> {
     /// Writes a value itself. Returns the letter of its kind, its name, and what it is as it is
     /// open.
-    fn value(&mut self, node: Node) -> Result<(char, Name, Open), fmt::Error> {
+    fn value(&mut self, node: Node) -> Result<(&'static str, Name, Open), fmt::Error> {
         let word = Name::Word;
         Ok(match node {
-            Node::Absent | Node::Present(_) => ('a', word(""), Open::Other),
+            Node::Absent | Node::Present(_) => ("a", word(""), Open::Other),
             Node::Number(number) if number < 1 << 53 => {
                 write!(self.values, ",{number}")?;
-                ('n', word(""), Open::Number)
+                ("n", word(""), Open::Number)
             }
             Node::Number(number) => {
                 write!(self.values, ",\"{number}\"")?;
-                ('n', word(""), Open::Number)
+                ("n", word(""), Open::Number)
             }
-            Node::Flag(true) => ('w', word("true"), Open::Other),
-            Node::Flag(false) => ('w', word("false"), Open::Other),
+            Node::Flag(true) => ("w", word("true"), Open::Other),
+            Node::Flag(false) => ("w", word("false"), Open::Other),
             Node::Text(text) => {
                 write!(self.values, ",{}", text.len())?;
-                ('t', word(""), Open::Text(text.len()))
+                ("t", word(""), Open::Text(text.len()))
             }
             Node::Bytes(bytes) => {
                 write!(self.values, ",{}", bytes.len())?;
-                ('b', word(""), Open::Text(bytes.len()))
+                ("b", word(""), Open::Text(bytes.len()))
             }
-            Node::Word(name) => ('w', word(name), Open::Other),
+            Node::Word(name) => ("w", word(name), Open::Other),
             Node::Index { space, scope, index } | Node::OutOfRange { space, scope, index, .. } => {
                 let target = target(self.of, self.depth, scope, space, index).unwrap_or(0);
                 write!(self.values, ",{index},{target}")?;
-                ('i', Name::Space(space), Open::Number)
+                ("i", Name::Space(space), Open::Number)
             }
             Node::List(list) => {
                 write!(self.values, ",{}", list.len())?;
-                ('l', word(""), Open::List)
+                ("l", word(""), Open::List)
             }
-            Node::Variant(name, _) => ('v', word(name), Open::Other),
-            Node::Tuple(_) => ('r', word(""), Open::Other),
-            Node::Record(name, _) | Node::Struct(name, _) => ('r', word(name), Open::Other),
+            Node::Variant(name, _) => ("v", word(name), Open::Other),
+            Node::Tuple(_) => ("r", word(""), Open::Other),
+            Node::Record(name, _) | Node::Struct(name, _) => ("r", word(name), Open::Other),
         })
     }
 }
