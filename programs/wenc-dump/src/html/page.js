@@ -579,7 +579,7 @@ function show(of, isFirst) {
   title.textContent = visible(file.name);
   summary.textContent = `${rows[0] ? label(rows[0]) : 'unknown file'} · ${count(size, 'byte')} · ${many('section')} · ${many('item')}${faults.length ? ` · ${count(faults.length, 'fault')}` : ''}. ${notes.filter(Boolean).join(' ')}`;
   [...tabs.children].forEach((tab, i) => tab.setAttribute('aria-pressed', files[i] === file));
-  bytes.total = file.lineCount;
+  bytes.draw(file.lineCount);
   chosen = rows[0];
   list();
 }
