@@ -1,6 +1,6 @@
 //! What the indices of a component mean.
 //!
-//! Needs the feature `walk`.
+//! Needs the feature `scope`.
 //!
 //! [`Definitions`] reads a component once, with the components that are nested in it and the types
 //! that have index spaces of their own: component types, instance types and module types. Each of
@@ -47,10 +47,11 @@ mod follow;
 mod meaning;
 mod paths;
 mod unread;
+mod users;
 
 use crate::tree::Space;
 use alloc::vec::Vec;
-use core::cell::RefCell;
+use core::cell::{OnceCell, RefCell};
 use core::fmt;
 use core::iter::{self, FusedIterator};
 
@@ -58,6 +59,7 @@ pub use definition::Definition;
 pub use fault::ScopeFault;
 pub use meaning::Meaning;
 use paths::{At, Paths};
+use users::Users;
 
 /// No definition, or no scope.
 const NONE: u32 = u32::MAX;
@@ -67,7 +69,7 @@ const UNKNOWN: u64 = u64::MAX;
 
 /// The definitions of a component, in all of its scopes.
 ///
-/// Needs the feature `walk`.
+/// Needs the feature `scope`.
 ///
 /// On a 64-bit machine each item, each declaration of a type, and each export or argument in the
 /// list of an instance takes at most 320 bytes of memory, and a scope that isn't at its end 320
@@ -160,7 +162,7 @@ impl<'a> Definitions<'a> {
     /// Returns what looks definitions up. Nothing is allocated before one is reached through an
     /// instance that no other leads to.
     pub fn instances(&self) -> Instances<'_, 'a> {
-        Instances { all: self, paths: RefCell::default() }
+        Instances { all: self, paths: RefCell::default(), users: OnceCell::new() }
     }
 
     fn entry(&self, number: u32) -> &Entry<'a> {
@@ -249,7 +251,7 @@ impl fmt::Debug for Definitions<'_> {
 
 /// The definitions of a component, with the instances through which they were reached.
 ///
-/// Needs the feature `walk`.
+/// Needs the feature `scope`.
 ///
 /// What is written, [`Definitions`], may be shared by threads, each of which has instances of its
 /// own. Each path of instances that is followed takes at most 64 bytes of memory until these are
@@ -258,12 +260,48 @@ pub struct Instances<'s, 'a> {
     all: &'s Definitions<'a>,
     /// The paths that aren't among those of `all`: their numbers follow those.
     paths: RefCell<Paths>,
+    /// Found when they are asked for.
+    users: OnceCell<Users>,
 }
 
 impl<'a> Instances<'_, 'a> {
     /// Returns the scope of the outermost component.
     pub fn component(&self) -> Scope<'_, 'a> {
         Scope { all: self, number: 0, before: NONE, place: 0, path: NONE }
+    }
+
+    /// Returns the definitions that have an index of this one, as they are written, in the order in
+    /// which they are defined: items, declarations, and exports and arguments in the lists of
+    /// instances. Those that have an index of what is the same as it, such as an alias, aren't among
+    /// them.
+    ///
+    /// All users are found by the first call, in linear time, and each call takes the time of its
+    /// own.
+    ///
+    /// ```
+    /// use wenc::scope::Definitions;
+    /// use wenc::tree::Space;
+    ///
+    /// // the type of a function, an import of a function of that type, and an export of this
+    /// let component = b"\0asm\x0d\0\x01\0\x07\x05\x01\x40\0\x01\0\
+    ///     \x0a\x06\x01\0\x01f\x01\0\x0b\x07\x01\0\x01g\x01\0\0";
+    /// let definitions = Definitions::new(component, 100)?;
+    /// let instances = definitions.instances();
+    /// let function = instances.component().get(Space::Funcs, 0)?;
+    /// let users = instances.users(function)?.map(|user| user.name());
+    /// assert_eq!(users.collect::<Vec<_>>(), [Some("g")]);
+    /// # Ok::<(), Box<dyn std::error::Error>>(())
+    /// ```
+    ///
+    /// # Errors
+    ///
+    /// [`ScopeFault::NoMemory`].
+    pub fn users<'s>(
+        &'s self,
+        of: Definition<'s, 'a>,
+    ) -> Result<impl FusedIterator<Item = Definition<'s, 'a>>, ScopeFault> {
+        let users = self.users_of(of)?.iter();
+        Ok(users.map(|number| Definition::new(self, At::written(*number))))
     }
 }
 
@@ -278,7 +316,7 @@ impl fmt::Debug for Instances<'_, '_> {
 /// The index spaces of a component, or of a type that has some of its own, as a whole or as far as
 /// they are defined before one of their definitions (component model, explainer, "Index Spaces").
 ///
-/// Needs the feature `walk`.
+/// Needs the feature `scope`.
 #[derive(Clone, Copy)]
 pub struct Scope<'s, 'a> {
     all: &'s Instances<'s, 'a>,
@@ -298,10 +336,16 @@ impl<'s, 'a> Scope<'s, 'a> {
         self.all.all.frame(self.number).place
     }
 
-    /// Returns the number of indices in a space; [`u64::MAX`] if it depends on items that can't be
-    /// read.
-    pub fn count(self, space: Space) -> u64 {
-        self.all.all.count(self.number, self.before, space)
+    /// Returns the number of indices in a space; `None` if it depends on items that can't be read.
+    pub fn count(self, space: Space) -> Option<u64> {
+        let count = self.all.all.count(self.number, self.before, space);
+        (count < UNKNOWN).then_some(count)
+    }
+
+    /// Returns the instance that it is the scope of; `None` for a scope as it is written.
+    pub fn instance(self) -> Option<Definition<'s, 'a>> {
+        let path = (self.path != NONE).then(|| self.all.path(self.path));
+        path.map(|path| Definition::new(self.all, path.instance))
     }
 
     /// Returns the definition of an index.
@@ -349,10 +393,26 @@ impl<'s, 'a> Scope<'s, 'a> {
         numbers.map(move |number| self.definition(number))
     }
 
-    /// Returns the export with this name, or one of several. A valid component has one.
-    pub fn export(self, name: &str) -> Option<Definition<'s, 'a>> {
-        let (_, number) = *self.all.all.exports_named(self.number, name).first()?;
-        (number < self.before).then(|| self.definition(number))
+    /// Returns the first export, declared export or argument with this name in this space; `None` if
+    /// there is none. In a valid component there is at most one.
+    ///
+    /// # Errors
+    ///
+    /// [`ScopeFault::Unread`] if there is none among the exports that can be read, and others
+    /// can't.
+    pub fn export(
+        self,
+        name: &str,
+        space: Space,
+    ) -> Result<Option<Definition<'s, 'a>>, ScopeFault> {
+        let number = self.all.all.named(self.number, name, space);
+        if let Some(number) = number.filter(|number| *number < self.before) {
+            return Ok(Some(self.definition(number)));
+        }
+        match self.all.all.frame(self.number).unread {
+            usize::MAX => Ok(None),
+            unread => Err(ScopeFault::Unread { place: self.place, space, unread }),
+        }
     }
 }
 

@@ -9,7 +9,7 @@ use crate::view::{CoreInstanceView, InstanceView, ItemView};
 use crate::{ReadError, Step, Unread, Walk};
 use alloc::collections::BinaryHeap;
 use alloc::vec::Vec;
-use core::cell::RefCell;
+use core::cell::{OnceCell, RefCell};
 use core::mem;
 
 impl<'a> Definitions<'a> {
@@ -50,7 +50,7 @@ impl<'a> Definitions<'a> {
     /// let definitions = Definitions::past_faults(&component, 100, |_| faults += 1);
     /// assert_eq!(faults, 1);
     /// let instances = definitions.instances();
-    /// let export = instances.component().export("f").expect("it is read");
+    /// let export = instances.component().export("f", Space::Funcs)?.expect("it is read");
     /// // core function 0 is the last one, so that function 0 is the lifted one
     /// assert_eq!(export.resolve()?.place(), 22);
     /// let unread = instances.component().get(Space::CoreFuncs, 0).err();
@@ -110,7 +110,13 @@ impl<'a> Reader<'a> {
     fn new() -> Self {
         let (entries, frames, names, faults, paths) = Default::default();
         let all = Definitions { entries, frames, names, faults, paths };
-        Self { all, paths: Paths::default(), open: Vec::new(), names: BinaryHeap::new(), types: Vec::new() }
+        Self {
+            all,
+            paths: Paths::default(),
+            open: Vec::new(),
+            names: BinaryHeap::new(),
+            types: Vec::new(),
+        }
     }
 
     fn end(self) -> Definitions<'a> {
@@ -261,7 +267,7 @@ impl<'a> Reader<'a> {
         let around = |out| Some(self.open.get(innermost.checked_sub(out)?)?.scope);
         let (mut target, mut last) = (At::NONE, At::written(number));
         let paths = RefCell::new(mem::take(&mut self.paths));
-        let instances = Instances { all: &self.all, paths };
+        let instances = Instances { all: &self.all, paths, users: OnceCell::new() };
         let found = instances.target_of(around, &meaning, place);
         let followed = found.and_then(|found| {
             let Some(to) = found else { return Ok(()) };

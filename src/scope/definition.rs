@@ -2,7 +2,7 @@
 
 use super::paths::At;
 use super::{Entry, Instances, Meaning, NONE, Scope, ScopeFault};
-use crate::tree::Space;
+use crate::tree::{self, Space, UsedIndex};
 use crate::view::ItemView;
 use core::cmp::Ordering;
 use core::fmt;
@@ -10,7 +10,7 @@ use core::hash::{Hash, Hasher};
 
 /// An item or a declaration, or an export or an argument in the list of an instance.
 ///
-/// Needs the feature `walk`.
+/// Needs the feature `scope`.
 #[derive(Clone, Copy)]
 pub struct Definition<'s, 'a> {
     all: &'s Instances<'s, 'a>,
@@ -20,6 +20,10 @@ pub struct Definition<'s, 'a> {
 impl<'s, 'a> Definition<'s, 'a> {
     pub(super) fn new(all: &'s Instances<'s, 'a>, at: At) -> Self {
         Self { all, at }
+    }
+
+    pub(super) fn number(self) -> u32 {
+        self.at.number
     }
 
     fn entry(self) -> &'s Entry<'a> {
@@ -77,6 +81,40 @@ impl<'s, 'a> Definition<'s, 'a> {
             Meaning::Item(ItemView::Import { name, .. }) => Some(name.name),
             meaning => meaning.export(),
         }
+    }
+
+    /// Calls a function with each index that it has itself, in their order: for a type with index
+    /// spaces of its own there is none, since its declarations have theirs, and for an instance the
+    /// component or the core module that is instantiated, since its arguments or exports have
+    /// theirs.
+    pub fn each_index(self, mut visit: impl FnMut(UsedIndex)) {
+        self.meaning().each_index(&mut visit);
+    }
+
+    /// Returns the definition of an index that it has, which [`each_index`](Self::each_index)
+    /// visits.
+    ///
+    /// # Errors
+    ///
+    /// Those of [`Scope::get`]; [`ScopeFault::OutOfRange`] for the index of a type with spaces of
+    /// its own ([`Scope::Type`](crate::tree::Scope::Type)).
+    pub fn used(self, used: UsedIndex) -> Result<Self, ScopeFault> {
+        let UsedIndex { space, scope, index, .. } = used;
+        let place = self.place();
+        let missing = ScopeFault::OutOfRange { place, space, index, count: 0 };
+        let tree::Scope::Component(out) = scope else { return Err(missing) };
+        let own = self.entry().first..self.entry().end();
+        if out == 0 && self.space() == Some(space) && space == Space::CoreTypes {
+            // types of a group may refer to one another
+            if own.contains(&index.into()) {
+                return Ok(self);
+            }
+        }
+        let mut scope = self.scope();
+        for _ in 0..out {
+            scope = scope.outer().ok_or(missing)?;
+        }
+        scope.get(space, index)
     }
 
     /// Returns the instance through which it is reached; `None` if it is as it is written. What an

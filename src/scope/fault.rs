@@ -6,7 +6,7 @@ use core::fmt;
 /// Why an index can't be followed to its definition. A place is the byte offset of the item or
 /// declaration that has the index, from the start of the outermost component.
 ///
-/// Needs the feature `walk`.
+/// Needs the feature `scope`.
 ///
 /// It isn't an [`Error`](crate::Error), which is about encoding.
 #[derive(Clone, Copy, Debug, PartialEq, Eq)]

@@ -1,9 +1,9 @@
 //! What a definition is.
 
-use crate::tree::{Space, defined_in_module, space_of};
+use crate::tree::{Scope, Space, UsedIndex, defined_in_module, space_of};
 use crate::view::{
-    CanonView, ComponentDeclView, ComponentDecls, CoreTypeView, InstanceDeclView, InstanceDecls,
-    ItemView, ListOf, ModuleDeclView, NameView, TypeView,
+    CanonView, ComponentDeclView, ComponentDecls, CoreInstanceView, CoreTypeView, InstanceDeclView,
+    InstanceDecls, InstanceView, ItemView, ListOf, ModuleDeclView, NameView, TypeView,
 };
 use crate::{
     Alias, ComponentExportKind, ComponentSectionId, ComponentTypeRef, ExportKind, ModuleArg,
@@ -12,7 +12,7 @@ use crate::{
 
 /// What a [`Definition`](super::Definition) is.
 ///
-/// Needs the feature `walk`.
+/// Needs the feature `scope`.
 #[derive(Clone, Copy)]
 pub enum Meaning<'a> {
     /// An item of a component; or a type, a core type, an alias or an import that a component type
@@ -190,6 +190,34 @@ impl<'a> Meaning<'a> {
             }
             Self::CoreExport { kind, index, .. } => Some(Same::Index(0, kind.into(), index)),
             _ => None,
+        }
+    }
+
+    /// Calls a function with each index that it has itself.
+    pub(super) fn each_index(&self, visit: &mut dyn FnMut(UsedIndex)) {
+        let mut one = |space, index| {
+            visit(UsedIndex { space, scope: Scope::Component(0), index, count: None });
+        };
+        match *self {
+            Self::Item(ItemView::Instance(InstanceView::Instantiate { component, .. })) => {
+                one(Space::Components, component);
+            }
+            Self::Item(ItemView::CoreInstance(CoreInstanceView::Instantiate {
+                module, ..
+            })) => one(Space::CoreModules, module),
+            Self::Item(ItemView::Instance(_) | ItemView::CoreInstance(_)) => {}
+            Self::Argument { kind, index, .. } => one(kind.into(), index),
+            Self::CoreArgument { argument: ModuleArg::Instance(index), .. } => {
+                one(Space::CoreInstances, index);
+            }
+            Self::CoreExport { kind, index, .. } => one(kind.into(), index),
+            Self::Unread { .. } => {}
+            _ if self.declarations().is_some() => {}
+            Self::Item(item) => item.node().each_index(|used| visit(used)),
+            Self::Declared { name, ty } => {
+                ItemView::Import { name, ty }.node().each_index(|used| visit(used));
+            }
+            Self::Module(decl) => decl.node().each_index(|used| visit(used)),
         }
     }
 

@@ -196,7 +196,8 @@ impl Instances<'_, '_> {
         };
         let space = self.all.entry(number).space?;
         let argument = self.all.named(of.inner, name.name, space)?;
-        (self.all.entry(number).scope == scope).then_some(At { path: instance.path, number: argument })
+        (self.all.entry(number).scope == scope)
+            .then_some(At { path: instance.path, number: argument })
     }
 
     /// Returns the definition that this one, which is reached through instances, is the same as: the

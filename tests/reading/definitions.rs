@@ -107,7 +107,7 @@ fn outer_aliases(count: u8) -> [(Vec<u8>, Space, usize); 4] {
 /// Expects that the scope has these aliases, and what they are of.
 fn has_aliases(scope: Scope<'_, '_>, count: u8) {
     for (_, space, place) in outer_aliases(count) {
-        let index = u32::try_from(scope.count(space)).expect("they are few") - 1;
+        let index = u32::try_from(scope.count(space).unwrap()).expect("they are few") - 1;
         assert_eq!(resolved(scope, space, index), Ok(place), "{space:?}");
     }
 }
@@ -137,7 +137,7 @@ fn outer_items() {
         let all = read(component(&[outermost(), many(7, &[&ty])].concat()));
         let ty = all.component().get(Space::Types, 1).unwrap();
         let (scope, types) = (ty.inner().unwrap(), ty.inner().unwrap().count(Space::Types));
-        assert_eq!(types, 2);
+        assert_eq!(types, Some(2));
         has_aliases(inner(scope, Space::Types, 1), 2);
         has_aliases(scope.get(Space::Types, 1).unwrap().scope(), 1);
     }
@@ -150,7 +150,7 @@ fn outer_core_types() {
     let all = read(component(&core));
     let module = inner(all.component(), Space::CoreTypes, 1);
     assert_eq!(resolved(module, Space::CoreTypes, 0), Ok(11));
-    let export = module.export("e").expect("it is declared");
+    let export = module.export("e", Space::CoreFuncs).unwrap().expect("it is declared");
     assert_eq!((export.space(), export.index()), (Some(Space::CoreFuncs), None));
     assert!(matches!(export.meaning(), Meaning::Module(ModuleDeclView::Export { .. })));
 
@@ -188,7 +188,8 @@ fn exports_of_core_instances() {
         }
         assert_eq!(resolved(inside, space, 0), Ok(place + 10));
         let list = inner(all.component(), Space::CoreInstances, 1);
-        let export = list.export(&char::from(name).to_string()).expect("it is in the list");
+        let export =
+            list.export(&char::from(name).to_string(), space).unwrap().expect("it is in the list");
         assert_eq!((export.space(), export.index()), (Some(space), None));
         assert_eq!(export.resolve().map(Definition::place), Ok(place));
     }
@@ -199,7 +200,13 @@ fn exports_of_core_instances() {
     let alias = all.component().get(Space::CoreTables, 0).unwrap();
     assert_eq!((alias.target(), alias.resolve()), (Ok(None), Ok(alias)));
     let argument = inner(all.component(), Space::CoreInstances, 1);
-    let argument = argument.export("a").expect("it is an argument").target().unwrap().unwrap();
+    let argument = argument
+        .export("a", Space::CoreInstances)
+        .unwrap()
+        .expect("it is an argument")
+        .target()
+        .unwrap()
+        .unwrap();
     assert_eq!(argument.index(), Some(0));
 }
 
@@ -227,7 +234,7 @@ fn exports_of_components() {
     let one = scope.get(Space::Types, 0).unwrap().target().unwrap().unwrap();
     assert_eq!((one.index(), one.scope().outer().unwrap().place()), (Some(2), 0));
     // what comes before an export is seen from it, not the export itself
-    assert_eq!(one.scope().count(Space::Types), 2);
+    assert_eq!(one.scope().count(Space::Types), Some(2));
     let missing = ScopeFault::OutOfRange { place: 31, space: Space::Types, index: 2, count: 2 };
     assert_eq!(one.scope().get(Space::Types, 2), Err(missing));
 
@@ -247,7 +254,7 @@ fn exports_of_components() {
     };
     assert_eq!(names(instance.exports().unwrap().unwrap()), ["t", "u"]);
     assert_eq!(names(instance.inner().unwrap()), ["a"]);
-    let argument = instance.inner().unwrap().export("a").unwrap();
+    let argument = instance.inner().unwrap().export("a", Space::Components).unwrap().unwrap();
     assert_eq!(
         argument.resolve().map(Definition::place),
         scope.get(Space::Components, 0).map(Definition::place)
@@ -355,18 +362,18 @@ fn past_a_fault() {
     let ty = many(7, &[b"\x79"]);
     for (sections, types, faults) in [
         // what isn't a section, or has no count, may define any number; nor is known what is after it
-        ([&ty[..], &section(10, b"\x80"), &ty].concat(), u64::MAX, 1),
-        ([&ty[..], b"\x0b\x7f\x01", &ty].concat(), u64::MAX, 1),
-        ([&ty[..], &nested(b"\x07\x02\x01\x79\x07\x01\x01"), &ty].concat(), 2, 1),
+        ([&ty[..], &section(10, b"\x80"), &ty].concat(), None, 1),
+        ([&ty[..], b"\x0b\x7f\x01", &ty].concat(), None, 1),
+        ([&ty[..], &nested(b"\x07\x02\x01\x79\x07\x01\x01"), &ty].concat(), Some(2), 1),
         // nor after bytes behind the last item
-        ([&ty[..], &section(7, b"\x01\x79\x79"), &ty].concat(), u64::MAX, 1),
-        ([&ty[..], &section(8, b"\x01\x05\x05"), &ty].concat(), 2, 1),
-        ([&ty[..], &section(7, b"\x02\x79\x42\x01\x01\x79\x07"), &ty].concat(), u64::MAX, 1),
-        ([&ty[..], &section(7, b"\x02\x79\x42\x01\x01\x79"), &ty].concat(), 4, 0),
-        ([&ty[..], &section(8, b"\x01\x07"), &section(9, b"\x80"), &ty].concat(), 2, 2),
-        ([&ty[..], &section(8, b"\x01\x07"), &section(10, b"\x01"), &ty].concat(), u64::MAX, 2),
-        ([&ty[..], &section(7, b"\x02\x79\x07"), &ty].concat(), u64::MAX, 1),
-        (b"\x0c\0".to_vec(), u64::MAX, 1),
+        ([&ty[..], &section(7, b"\x01\x79\x79"), &ty].concat(), None, 1),
+        ([&ty[..], &section(8, b"\x01\x05\x05"), &ty].concat(), Some(2), 1),
+        ([&ty[..], &section(7, b"\x02\x79\x42\x01\x01\x79\x07"), &ty].concat(), None, 1),
+        ([&ty[..], &section(7, b"\x02\x79\x42\x01\x01\x79"), &ty].concat(), Some(4), 0),
+        ([&ty[..], &section(8, b"\x01\x07"), &section(9, b"\x80"), &ty].concat(), Some(2), 2),
+        ([&ty[..], &section(8, b"\x01\x07"), &section(10, b"\x01"), &ty].concat(), None, 2),
+        ([&ty[..], &section(7, b"\x02\x79\x07"), &ty].concat(), None, 1),
+        (b"\x0c\0".to_vec(), None, 1),
     ] {
         let (definitions, found) = past_faults(component(&sections));
         let count = definitions.component().count(Space::Types);
@@ -407,20 +414,21 @@ fn indices_after_a_fault() {
     for core in [0, 2] {
         let (definitions, _) = past_faults(lifting(core));
         let scope = definitions.component();
-        let export = scope.export("f").expect("it is read");
+        let export = scope.export("f", Space::Funcs).unwrap().expect("it is read");
         let fault = ScopeFault::Unread { place, space, unread: 18 };
         assert_eq!((export.target(), export.ty().err()), (Err(fault), Some(fault)));
         assert_eq!(fault.to_string(), "the func at 0x1f depends on what isn't read at 0x12");
         assert_eq!(unread(scope), [(Space::CoreFuncs, 2, false), (space, 0, false)]);
-        assert_eq!((export.index(), scope.count(space)), (None, u64::MAX));
-        assert_eq!((scope.count(Space::CoreFuncs), scope.count(Space::Types)), (u64::MAX, 1));
+        assert_eq!((export.index(), scope.count(space)), (None, None));
+        assert_eq!((scope.count(Space::CoreFuncs), scope.count(Space::Types)), (None, Some(1)));
         assert_eq!(resolved(scope, Space::Types, 0), Ok(11));
     }
     // nor are they after aliases or imports that can't be read, if functions are core functions
     for between in [b"\x06\x02\x01\xff", b"\x0a\x02\x01\xff"] {
         let (definitions, faults) =
             past_faults(lifting_after(&[b"\x08\x02\x01\xff", &between[..]].concat(), 0));
-        let export = definitions.component().export("f").expect("it is read");
+        let export =
+            definitions.component().export("f", Space::Funcs).unwrap().expect("it is read");
         let fault = ScopeFault::Unread { place: 34, space, unread: 18 };
         assert_eq!((faults, export.target(), export.index()), (2, Err(fault), None));
     }
@@ -442,9 +450,9 @@ fn indices_after_a_fault() {
 fn indices_after_core_functions() {
     let (definitions, _) = past_faults(lifting(1));
     let scope = definitions.component();
-    let export = scope.export("f").expect("it is read");
+    let export = scope.export("f", Space::Funcs).unwrap().expect("it is read");
     assert_eq!(export.resolve().map(|of| (of.place(), of.index())), Ok((23, Some(0))));
-    assert_eq!((export.index(), scope.count(Space::Funcs)), (Some(1), 2));
+    assert_eq!((export.index(), scope.count(Space::Funcs)), (Some(1), Some(2)));
     assert_eq!(unread(scope), [(Space::CoreFuncs, 2, true), (Space::Funcs, 0, true)]);
     let space = Space::CoreFuncs;
     for index in [0, 1] {
@@ -468,7 +476,10 @@ fn cycles() {
     let ty = b"\x42\x01\x04\0\x01t\x03\0\0";
     let import = section(10, b"\x01\0\x01i\x05\0");
     let all = read(component(&[many(7, &[ty]), import, many(6, &[b"\x03\0\0\x01t"])].concat()));
-    let declared = inner(all.component(), Space::Types, 0).export("t").expect("it is declared");
+    let declared = inner(all.component(), Space::Types, 0)
+        .export("t", Space::Types)
+        .unwrap()
+        .expect("it is declared");
     is_cycle(declared, 13, Space::Types, 0);
     assert_eq!(all.component().resolve(Space::Types, 1).err(), declared.resolve().err());
     // a component with an alias of itself, and one of the component behind it
@@ -483,7 +494,10 @@ fn cycles() {
     // an argument that is its own instance
     let instance = many(5, &[b"\0\0\x01\x01a\x05\0"]);
     let all = read(component(&[nested(b""), instance].concat()));
-    let argument = inner(all.component(), Space::Instances, 0).export("a").expect("an argument");
+    let argument = inner(all.component(), Space::Instances, 0)
+        .export("a", Space::Instances)
+        .unwrap()
+        .expect("an argument");
     is_cycle(argument, 21, Space::Instances, 0);
 }
 
@@ -516,7 +530,7 @@ fn faults() {
         // so is what is the same as it
         let again =
             read(component(&[&sections[..], &section(11, b"\x01\0\x01z\x03\0\0")].concat()));
-        if all.component().count(Space::Types) == 1 {
+        if all.component().count(Space::Types) == Some(1) {
             let last = again.component().definitions().last().expect("an item");
             assert_eq!(last.resolve(), Err(fault));
             assert_ne!(last.target(), Ok(None));
@@ -572,7 +586,7 @@ fn arguments_at_any_depth() {
         let nested = [&[4][..], &size, &nested].concat();
         inner = [import.clone(), nested, first, alias, again, last, export].concat();
         let all = read(component(&inner));
-        let export = all.component().export("e").expect("it is there");
+        let export = all.component().export("e", Space::Types).unwrap().expect("it is there");
         assert_eq!(export.resolve(), all.component().get(Space::Types, 0));
     }
 }
@@ -596,7 +610,10 @@ fn what_has_no_end() {
 
 /// The export of component 0, as it is written.
 fn inner_export<'s>(all: &'s Instances<'s, 'static>) -> Definition<'s, 'static> {
-    inner(all.component(), Space::Components, 0).export("y").expect("it is there")
+    inner(all.component(), Space::Components, 0)
+        .export("y", Space::Types)
+        .unwrap()
+        .expect("it is there")
 }
 
 /// An instance that is exported with a type has what that type exports, and nothing else.
@@ -618,13 +635,14 @@ fn exports_of_an_ascribed_type() {
 /// What a component defines that isn't entered isn't known.
 #[test]
 fn beyond_the_limit() {
-    let bytes = b"\0asm\x0d\0\x01\0\x04\x15\0asm\x0d\0\x01\0\x07\x02\x01\x79\x0b\x07\x01\0\x01t\x03\0\0\
+    let bytes =
+        b"\0asm\x0d\0\x01\0\x04\x15\0asm\x0d\0\x01\0\x07\x02\x01\x79\x0b\x07\x01\0\x01t\x03\0\0\
         \x05\x04\x01\0\0\0\x06\x06\x01\x03\0\0\x01t";
     let definitions = Definitions::past_faults(bytes, 0, |_| {});
     let instances = definitions.instances();
     let alias = instances.component().resolve(Space::Types, 0).map(|of| of.place());
     assert_eq!(alias, Err(ScopeFault::Unread { place: 40, space: Space::Types, unread: 10 }));
-    assert_eq!(inner(instances.component(), Space::Components, 0).count(Space::Types), u64::MAX);
+    assert_eq!(inner(instances.component(), Space::Components, 0).count(Space::Types), None);
     let definitions = Definitions::new(bytes, 1).expect("it is read");
     let instances = definitions.instances();
     assert_eq!(instances.component().resolve(Space::Types, 0).map(|of| of.place()), Ok(21));

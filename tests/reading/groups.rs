@@ -37,7 +37,7 @@ fn each_type_has_its_definition() {
     let group = definitions.component().get(TYPES, 2).expect("it is in the group");
     assert_eq!(
         (group.index(), group.count(), definitions.component().count(TYPES)),
-        (Some(0), 3, 4)
+        (Some(0), 3, Some(4))
     );
 }
 

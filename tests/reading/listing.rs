@@ -40,7 +40,7 @@ fn each_index_has_its_definition() {
     let component = component(&many);
     let definitions = Definitions::new(&component, 0).expect("it is read");
     let definitions = definitions.instances();
-    assert_eq!(definitions.component().count(Space::Values), 3 * u64::from(u32::MAX));
+    assert_eq!(definitions.component().count(Space::Values), Some(3 * u64::from(u32::MAX)));
     assert_eq!(definitions.component().definitions().last().expect("the third").index(), None);
 }
 

@@ -76,7 +76,7 @@ fn are_defined(bytes: &[u8], listing: &Listing) {
     for space in Space::ALL {
         let index = next[space.number()];
         assert_eq!(listing.counts[space.number()], index.into());
-        assert_eq!(definitions.component().count(space), index.into());
+        assert_eq!(definitions.component().count(space), Some(index.into()));
         assert!(definitions.component().get(space, index).is_err());
     }
 }

@@ -65,7 +65,7 @@ impl Seen {
         } else {
             0
         };
-        let count = around.map_or(0, |around| around.count(space)) + own;
+        let count = around.map_or(0, |around| around.count(space).expect("they are read")) + own;
         let is_there = around.is_some_and(|around| around.get(space, index).is_ok());
         assert_eq!(is_there, u64::from(index) < count - own, "{of:?} {space:?} {index}");
         if u64::from(index) >= count {
