@@ -23,7 +23,7 @@ const SCRIPT: &str = include_str!("html/page.js");
 /// The SHA-256 digests of the style and the script, in base64.
 const HASHES: [&str; 2] = [
     "8feBHdn69T5JklUpuJqrOIi2qcfu9QU/4za/rEj/1Ow=",
-    "Bz/sSga48fqpOjKXQKvU2f6gig4yz5hOI//n1OlminA=",
+    "M14+EMwtvQEz3Xe7qxGQwS1D0KlpKYjqDiOphLicJOw=",
 ];
 
 /// The number of bytes of a part without items above which only its ends are on the page, and the
@@ -385,7 +385,11 @@ impl<'d, 'f, 't> Data<'d, 'f, 't> {
             let mut hasher = DefaultHasher::new();
             hasher.write(&self.bytes[cut.clone()]);
             let hash = hasher.finish();
-            write!(out, "{lead}[{from},\"{}\",\"{hash:x}\"]", Base64(&self.bytes[from..cut.start]))?;
+            write!(
+                out,
+                "{lead}[{from},\"{}\",\"{hash:x}\"]",
+                Base64(&self.bytes[from..cut.start])
+            )?;
             (from, lead) = (cut.end, ",");
         }
         out.write_all(b"]}")

@@ -5,8 +5,8 @@ use super::fold::Names;
 use std::ffi::OsStr;
 use std::io;
 use std::ops::Range;
-use wenc::{Item, Producer};
 use wenc::tree::{Node, Space, UsedIndex};
+use wenc::{Item, Producer};
 
 /// A format of reports.
 pub trait Report {

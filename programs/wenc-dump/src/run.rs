@@ -176,7 +176,8 @@ fn data(
     print: impl FnOnce(Data) -> io::Result<()>,
 ) -> io::Result<()> {
     let mut is_whole = true;
-    let definitions = Definitions::past_faults(bytes, DEPTH, |error| is_whole &= !error.is_memory());
+    let definitions =
+        Definitions::past_faults(bytes, DEPTH, |error| is_whole &= !error.is_memory());
     let instances = definitions.instances();
     if !is_whole {
         return Err(io::ErrorKind::OutOfMemory.into());

@@ -9,7 +9,9 @@ use std::io;
 use std::ops::Range;
 use wenc::tree::{IndexCounts, Space};
 use wenc::view::ItemView;
-use wenc::{CountedWalk as Steps, CoreSections, DebugNames, Item, Part as Unreadable, Step, Unread};
+use wenc::{
+    CoreSections, CountedWalk as Steps, DebugNames, Item, Part as Unreadable, Step, Unread,
+};
 
 /// The maximum number of components around one, as of types.
 pub const DEPTH: usize = 99;

@@ -141,8 +141,13 @@ impl<'d, 'f> Values<'d, 'f> {
     pub fn item(&mut self, id: u8, item: &Item<'_>) -> Result<(usize, String), fmt::Error> {
         let of = self.definitions.get(&item.range.start).copied();
         let bytes = self.bytes;
-        let unit =
-            Unit { shape: Buffer::default(), values: Buffer::default(), key: id.into(), of, depth: 0 };
+        let unit = Unit {
+            shape: Buffer::default(),
+            values: Buffer::default(),
+            key: id.into(),
+            of,
+            depth: 0,
+        };
         let mut writer = Writer {
             all: self,
             id,
@@ -287,7 +292,8 @@ impl<'d, 'f> Writer<'_, 'd, 'f> {
             self.copy.extend(&self.all.bytes[self.range.clone()]);
         }
         let found = expected(self.id, &mut self.copy, at);
-        let found = found.map(|text| self.all.expected.number(format!("\"{text}\""))).transpose()?;
+        let found =
+            found.map(|text| self.all.expected.number(format!("\"{text}\""))).transpose()?;
         self.all.probed.try_reserve(1).map_err(|_| fmt::Error)?;
         self.all.probed.insert(key, found);
         Ok(found)
