@@ -314,7 +314,7 @@ impl<'d, 'f, 't> Data<'d, 'f, 't> {
                 self.text(*name)?;
             }
             Part::File(range, _) => self.row(range, Kind::Module)?,
-            Part::Section { range, id, word, count, core } => {
+            Part::Section { range, id, word, count, core, .. } => {
                 self.row(range, Kind::Section)?;
                 let word = match word {
                     Some(word) => self.word(word)?,

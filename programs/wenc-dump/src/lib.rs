@@ -3,6 +3,7 @@
 #![forbid(unsafe_code)]
 
 mod arguments;
+mod at;
 mod buffer;
 mod check;
 mod colours;

@@ -76,6 +76,7 @@ impl Walk<'_, '_> {
         self.report.open(&Part::Section {
             range: range.clone(),
             id: section.id,
+            content: at + section.range.end - section.data.len(),
             word: words::core_section(section.id),
             count: section.count(),
             core: Some(Core { name: section.name, contents, bytes }),

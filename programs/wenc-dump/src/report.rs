@@ -55,6 +55,8 @@ pub enum Part<'a> {
         word: Option<&'static str>,
         /// The number of its items; `None` if it isn't a section of items, or that can't be read.
         count: Option<u32>,
+        /// The byte offset of its content, after its size.
+        content: usize,
         /// The fields of a section of a core module.
         core: Option<Core<'a>>,
     },

@@ -1,5 +1,6 @@
 //! Runs the program.
 
+use super::at::At;
 use super::arguments::{HELP, Options, Request, USAGE, request};
 use super::buffer::Buffer;
 use super::escape::Escaped;
@@ -14,7 +15,7 @@ use super::wit::Wit;
 use std::ffi::{OsStr, OsString};
 use std::fmt::{self, Write as _};
 use std::fs;
-use std::io::{self, Read, Write};
+use std::io::{self, BufWriter, Read, Write};
 use std::path::Path;
 use wenc::Part;
 use wenc::scope::Definitions;
@@ -46,13 +47,19 @@ pub fn run(
     terminal: Terminal,
     streams: &mut Streams,
 ) -> u8 {
-    let mut status = 0;
+    let (mut status, mut has_file) = (0, false);
     let done = match request(arguments_with_name.skip(1)) {
         Ok(Request::Help) => print(streams.out, &format!("{USAGE}{HELP}")),
         Ok(Request::Version) => {
             print(streams.out, concat!("wenc-dump ", env!("CARGO_PKG_VERSION"), "\n"))
         }
-        Ok(Request::Dump(options)) => dump(&options, terminal, streams, &mut status),
+        Ok(Request::Dump(options)) => match &options.output {
+            None => dump(&options, terminal, streams, &mut status),
+            Some(file) => {
+                has_file = true;
+                to_file(file, streams, |streams| dump(&options, terminal, streams, &mut status))
+            }
+        },
         Err(why) => {
             complain(streams.err, format_args!("wenc-dump: {why}\n{USAGE}"));
             return 2;
@@ -60,11 +67,25 @@ pub fn run(
     };
     match done {
         Err(error) if error.kind() != io::ErrorKind::BrokenPipe => {
-            complain(streams.err, format_args!("wenc-dump: standard output: {error}\n"));
+            let place = if has_file { "" } else { "standard output: " };
+            complain(streams.err, format_args!("wenc-dump: {place}{error}\n"));
             status.max(1)
         }
         _ => status,
     }
+}
+
+/// Writes to a file instead of standard output, and reports why it can't be written.
+fn to_file(
+    file: &OsStr,
+    streams: &mut Streams,
+    write: impl FnOnce(&mut Streams) -> io::Result<()>,
+) -> io::Result<()> {
+    let done = fs::File::create(file).and_then(|created| {
+        let (input, err) = (&mut *streams.input, &mut *streams.err);
+        write(&mut Streams { input, out: &mut BufWriter::new(created), err })
+    });
+    done.map_err(|error| io::Error::new(error.kind(), format!("{}: {error}", Escaped(file))))
 }
 
 fn print(out: &mut dyn Write, text: &str) -> io::Result<()> {
@@ -94,20 +115,24 @@ fn dump(
         let on_fault = &mut |fault: &Fault| {
             *status = fault.status().max(*status);
             let len = kept.0.len();
-            if !options.json || writeln!(kept, "{name}: {fault}").is_err() {
+            if !options.json || writeln!(kept, "wenc-dump: {name}: {fault}").is_err() {
                 kept.0.truncate(len);
-                complain(streams.err, format_args!("{name}: {fault}\n"));
+                complain(streams.err, format_args!("wenc-dump: {name}: {fault}\n"));
             }
         };
         let done = if options.wit {
             wit(streams.out, file, streams.input, on_fault)
+        } else if let Some(offset) = options.at {
+            let text = Text::new(streams.out, Style::of(options, terminal));
+            at(text, offset, file, streams.input, on_fault)
         } else {
+            let mut text = Text::new(streams.out, Style::of(options, terminal));
             let format: &mut dyn Report = if options.json {
-                &mut Json::new(streams.out, options.hex)
+                &mut Json::new(streams.out, options.hex, options.compact)
             } else {
-                &mut Text::new(streams.out, Style::of(options, terminal))
+                &mut text
             };
-            let mut selected = Selected::new(format, &options.sections);
+            let mut selected = Selected::new(format, &options.sections, !options.summary);
             report(&mut selected, (file, options.check), streams.input, on_fault)
         };
         if !kept.0.is_empty() {
@@ -121,10 +146,10 @@ fn dump(
 impl Style {
     fn of(options: &Options, terminal: Terminal) -> Self {
         Self {
-            has_colours: options.colours.unwrap_or(terminal.has_colours),
+            has_colours: options.colours.unwrap_or(terminal.has_colours && options.output.is_none()),
             has_bytes: options.hex,
             has_titles: options.files.len() > 1,
-            columns: options.columns.or(terminal.columns).unwrap_or(COLUMNS),
+            columns: options.columns.or(terminal.columns.filter(|_| options.output.is_none())).unwrap_or(COLUMNS),
         }
     }
 }
@@ -134,7 +159,7 @@ fn page(options: &Options, streams: &mut Streams, status: &mut u8) -> io::Result
     let Streams { input, out, err } = streams;
     let mut tell = |file: &OsStr, fault: &Fault| {
         *status = fault.status().max(*status);
-        complain(*err, format_args!("{}: {fault}\n", Escaped(file)));
+        complain(*err, format_args!("wenc-dump: {}: {fault}\n", Escaped(file)));
     };
     let mut files = Vec::new();
     for file in &options.files {
@@ -228,6 +253,31 @@ fn wit(
     let unwritten = unwritten.into_iter().map(|part| Kind::Unwritten(part).into());
     unwritten.for_each(|fault| on_fault(&fault));
     Ok(())
+}
+
+/// Says what the byte at this offset is, and calls `on_fault` with each fault.
+fn at(
+    text: Text,
+    offset: usize,
+    file: &OsStr,
+    input: &mut dyn Read,
+    on_fault: &mut dyn FnMut(&Fault),
+) -> io::Result<()> {
+    let bytes = match bytes_of(file, input) {
+        Ok(bytes) if offset < bytes.len() => bytes,
+        Ok(bytes) => {
+            on_fault(&Kind::Beyond(offset, bytes.len()).into());
+            return Ok(());
+        }
+        Err(error) => {
+            on_fault(&Fault::of_input(error));
+            return Ok(());
+        }
+    };
+    let mut at = At::new(text, &bytes, offset);
+    at.begin(file)?;
+    walk(&bytes, false, &mut at, &mut |fault| on_fault(&fault))?;
+    at.flush()
 }
 
 /// Reports a file, with indices out of range if `has_check`, and calls `on_fault` with each fault.
