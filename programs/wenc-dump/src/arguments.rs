@@ -128,8 +128,7 @@ fn short(argument: &str) -> Option<Vec<String>> {
             'V' => "--version".to_owned(),
             'o' => {
                 let value = &letters[at + 1..];
-                let value = if value.is_empty() { "" } else { &*format!("={value}") };
-                options.push(format!("--output{value}"));
+                options.push(["--output", if value.is_empty() { "" } else { "=" }, value].concat());
                 break;
             }
             _ => return None,

@@ -100,7 +100,8 @@ impl<'t, 'f> At<'t, 'f> {
                 let mut copy = self.file[range.clone()].to_vec();
                 let other = expected(self.id, &mut copy, offset - range.start);
                 let other = other.filter(|_| what.is_some());
-                let other = other.map_or(String::new(), |other| format!(", where {other} is expected"));
+                let other =
+                    other.map_or(String::new(), |other| format!(", where {other} is expected"));
                 (range.clone(), what.map(|what| what + &other))
             }
             Part::Item { range, .. } => (range.clone(), None),

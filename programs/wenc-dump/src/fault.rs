@@ -142,7 +142,7 @@ impl Display for Fault {
                 write!(f, "the section at {place:#x} may be {by} {longer}")
             }
             Kind::Beyond(offset, len) => {
-                write!(f, "no byte at {offset:#x}: {}", Counted(len, "byte"))
+                write!(f, "no byte at {offset:#x}, the file has {}", Counted(len, "byte"))
             }
             Kind::OutOfRange(1) => f.write_str("1 index is out of range"),
             Kind::OutOfRange(count) => write!(f, "{count} indices are out of range"),

@@ -23,7 +23,7 @@ const SCRIPT: &str = include_str!("html/page.js");
 /// The SHA-256 digests of the style and the script, in base64.
 const HASHES: [&str; 2] = [
     "8feBHdn69T5JklUpuJqrOIi2qcfu9QU/4za/rEj/1Ow=",
-    "M14+EMwtvQEz3Xe7qxGQwS1D0KlpKYjqDiOphLicJOw=",
+    "otLqfalVpzn+ozO88DDvaPy0dCqaNfiCdO6/tQsj1LE=",
 ];
 
 /// The number of bytes of a part without items above which only its ends are on the page, and the
@@ -314,7 +314,7 @@ impl<'d, 'f, 't> Data<'d, 'f, 't> {
                 self.text(*name)?;
             }
             Part::File(range, _) => self.row(range, Kind::Module)?,
-            Part::Section { range, id, word, count, core, .. } => {
+            Part::Section { range, id, word, content, count, core } => {
                 self.row(range, Kind::Section)?;
                 let word = match word {
                     Some(word) => self.word(word)?,
@@ -324,6 +324,7 @@ impl<'d, 'f, 't> Data<'d, 'f, 't> {
                 let is_core = u8::from(core.is_some());
                 write!(self.rows, ",{word},{id},{count},{is_core}")?;
                 self.text(core.as_ref().and_then(|core| core.name))?;
+                self.field(content - range.start)?;
                 if let Some(core) = core {
                     self.cut(range.end - core.bytes.len()..range.end)?;
                 } else if let Some(open) = self.open.last_mut() {
@@ -370,7 +371,11 @@ impl<'d, 'f, 't> Data<'d, 'f, 't> {
     pub fn print(mut self, out: &mut dyn Write, name: &str) -> io::Result<()> {
         let (size, is_short) = (self.bytes.len(), self.is_short);
         write!(out, "{{\"file\":{},\"size\":{size},\"short\":{is_short},", Text(name))?;
-        write!(out, "\"words\":{:?},\n\"shapes\":[", self.words)?;
+        write!(out, "\"words\":[")?;
+        for (at, word) in self.words.iter().enumerate() {
+            write!(out, "{}{word:?}", if at == 0 { "" } else { "," })?;
+        }
+        write!(out, "],\n\"shapes\":[")?;
         write!(out, "{}],\n\"expected\":[", self.values.shapes.all.0)?;
         write!(out, "{}],\n\"rows\":[{}],\n\"faults\":[", self.values.expected.all.0, self.rows.0)?;
         self.wrong.sort_by_key(|wrong| (wrong.place, wrong.cause));

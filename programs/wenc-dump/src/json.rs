@@ -6,8 +6,8 @@ use super::walk::DEPTH;
 use std::ffi::OsStr;
 use std::fmt::{self, Display, Write as _};
 use std::io::{self, Write};
-use std::ops::Range;
 use std::mem;
+use std::ops::Range;
 use wenc::Producer;
 use wenc::tree::{Child, Node, Scope, UsedIndex};
 

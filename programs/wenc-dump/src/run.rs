@@ -1,7 +1,7 @@
 //! Runs the program.
 
-use super::at::At;
 use super::arguments::{HELP, Options, Request, USAGE, request};
+use super::at::At;
 use super::buffer::Buffer;
 use super::escape::Escaped;
 use super::fault::{Fault, Kind};
@@ -146,10 +146,15 @@ fn dump(
 impl Style {
     fn of(options: &Options, terminal: Terminal) -> Self {
         Self {
-            has_colours: options.colours.unwrap_or(terminal.has_colours && options.output.is_none()),
+            has_colours: options
+                .colours
+                .unwrap_or(terminal.has_colours && options.output.is_none()),
             has_bytes: options.hex,
             has_titles: options.files.len() > 1,
-            columns: options.columns.or(terminal.columns.filter(|_| options.output.is_none())).unwrap_or(COLUMNS),
+            columns: options
+                .columns
+                .or(terminal.columns.filter(|_| options.output.is_none()))
+                .unwrap_or(COLUMNS),
         }
     }
 }

@@ -10,7 +10,8 @@ use std::ops::Range;
 use wenc::tree::{IndexCounts, Space};
 use wenc::view::ItemView;
 use wenc::{
-    CoreSections, CountedWalk as Steps, DebugNames, Item, Part as Unreadable, Sections, Step, Unread,
+    CoreSections, CountedWalk as Steps, DebugNames, Item, Part as Unreadable, Sections, Step,
+    Unread,
 };
 
 /// The maximum number of components around one, as of types.
@@ -174,7 +175,8 @@ impl<'f> Walk<'f, '_> {
 
     fn open_section(&mut self, range: Range<usize>, id: u8, count: Option<u32>) -> io::Result<()> {
         self.levels.iter_mut().last().into_iter().for_each(|level| level.has_open_section = true);
-        let raw = Sections::at(self.bytes, range.start).and_then(|mut sections| sections.next_raw());
+        let raw =
+            Sections::at(self.bytes, range.start).and_then(|mut sections| sections.next_raw());
         let content = raw.map_or(range.end, |(range, raw)| range.end - raw.data.len());
         let (word, core) = (words::section(id), None);
         self.report.open(&Part::Section { range, id, word, content, count, core })

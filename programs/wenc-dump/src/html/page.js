@@ -58,7 +58,7 @@ class File {
       } else if (kind === 2) {
         Object.assign(row, { h: data.words[rest[0]], id: rest[1], core: rest[3] });
         if (rest[2] >= 0) row.c = rest[2];
-        row.debug = rest[4] || undefined;
+        [row.debug, row.front] = [rest[4] || undefined, rest[5]];
       } else [row.h, row.debug] = kind === 4 ? ['custom', rest[0]] : rest;
       return row;
     });
@@ -423,9 +423,7 @@ function tell(place, live = 'polite') {
 function meaningOf(row, place) {
   const i = place - row.s;
   if (row.k === 'section') {
-    let size = 1;
-    while (file.byte(row.s + size) > 127) size++;
-    if (i <= size) return [i ? `size: ${row.e - row.s - 1 - size}` : `id ${row.id}: ${label(row)}`];
+    if (i < row.front) return [i ? `size: ${row.e - row.s - row.front}` : `id ${row.id}: ${label(row)}`];
     return [row.c === undefined ? 'content' : `count: ${row.c}`];
   }
   if (row.k === 'component' || row.k === 'module') return [`header: ${i < 4 ? '\\0asm' : 'version and layer'}`];
