@@ -23,10 +23,15 @@ struct Moved {
     counts: IndexCounts,
 }
 
+/// Returns the next index in a space. It is known, as all items are read.
+fn next(counts: &IndexCounts, space: Space) -> u64 {
+    counts.of(space).unwrap_or(u64::MAX)
+}
+
 impl Moved {
     /// Adds the next indices in a space, which begin at `to` in the merged component.
     fn define(&mut self, space: Space, count: u32, to: u64) {
-        self.firsts[space.number()].push((self.counts.of(space), to));
+        self.firsts[space.number()].push((next(&self.counts, space), to));
         self.counts.define(Some((space, count)));
     }
 
@@ -90,7 +95,7 @@ impl Merged {
                     moved.define(space, 1, *index);
                     return Ok(());
                 }
-                self.imports.push((name.clone(), kind, self.counts.of(space)));
+                self.imports.push((name.clone(), kind, next(&self.counts, space)));
             }
             ItemTree::Export { name, .. } if self.exports.contains(name) => {
                 return Err(format!("both export {}", &*name.name));
@@ -99,7 +104,7 @@ impl Merged {
             _ => {}
         }
         if let Some((space, count)) = item.defined_indices() {
-            moved.define(space, count, self.counts.of(space));
+            moved.define(space, count, next(&self.counts, space));
             self.counts.define(Some((space, count)));
         }
         item.indices_mut(|used| moved.renumber(used));

@@ -4,25 +4,41 @@
 //! cargo run -r --features walk --example strip -- COMPONENT OUT
 //! ```
 //!
-//! Nested components lose theirs too; everything else stays the same byte for byte. `Sections`
-//! reads the component section by section, and the other sections are appended to a `Component`.
+//! Nested components lose theirs too; everything else stays the same byte for byte. A `Walk` enters
+//! nested components, and the other sections are appended to a `Component` for each.
 
-use wenc::{Component, ComponentSectionId, NestedComponentBytes, ReadError, Sections};
+use std::mem;
+use wenc::{
+    Component, ComponentSectionId, NestedComponentBytes, Part, ReadError, Step, Unread, Walk,
+};
+
+/// The maximum nesting depth of components: each is copied into the one around it.
+const LIMIT: usize = 100;
 
 /// Returns the component without custom sections, or why its sections can't be read.
 pub fn strip(bytes: &[u8]) -> Result<Vec<u8>, ReadError> {
-    let custom = ComponentSectionId::CoreCustom.into();
-    let nested = ComponentSectionId::Component.into();
-    let mut stripped = Component::new();
-    for section in Sections::new(bytes)? {
-        let section = section?;
-        if section.id() == nested {
-            stripped.section(&NestedComponentBytes(&strip(section.raw().data)?));
-        } else if section.id() != custom {
-            stripped.section(&section);
+    let left_out = [ComponentSectionId::CoreCustom, ComponentSectionId::Component].map(u8::from);
+    let (mut innermost, mut around) = (Component::new(), Vec::new());
+    for step in Walk::new(bytes, LIMIT)? {
+        match step {
+            Step::Section(section) if !left_out.contains(&section.id()) => {
+                innermost.section(&section);
+            }
+            Step::Enter(_) => around.push(mem::take(&mut innermost)),
+            Step::Leave => {
+                let nested = mem::replace(&mut innermost, around.pop().expect("it was entered"));
+                innermost.section(&NestedComponentBytes(&nested.finish()));
+            }
+            // the section is copied as it is
+            Step::Unread(Unread { error, .. })
+                if !matches!(error.part, Part::Item(_) | Part::Rest) =>
+            {
+                return Err(error);
+            }
+            _ => {}
         }
     }
-    Ok(stripped.finish())
+    Ok(innermost.finish())
 }
 
 #[allow(dead_code)]

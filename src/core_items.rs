@@ -8,12 +8,25 @@ use crate::{CoreSection, ExportKind, SectionId};
 use core::iter::FusedIterator;
 use core::ops::Range;
 
-/// An item of a core module, which borrows from the module (WebAssembly 3.0, binary format, "Import
+/// An item of a core module.
+///
+/// Needs the feature `walk`.
+#[derive(Clone, Debug, PartialEq, Eq, Hash)]
+#[non_exhaustive]
+pub struct CoreItem<'a> {
+    /// Its byte offsets in the module.
+    pub range: Range<usize>,
+    /// What it is, borrowed from the module's bytes.
+    pub view: CoreItemView<'a>,
+}
+
+/// What an item of a core module is, which borrows from the module (WebAssembly 3.0, binary format, "Import
 /// Section", "Export Section" and "Start Section").
 ///
 /// Needs the feature `walk`.
-#[derive(Clone, Copy, Debug, PartialEq, Eq)]
-pub enum CoreItem<'a> {
+#[derive(Clone, Copy, Debug, PartialEq, Eq, Hash)]
+#[non_exhaustive]
+pub enum CoreItemView<'a> {
     /// An import.
     Import {
         /// The name of the module that it is imported from.
@@ -39,7 +52,7 @@ pub enum CoreItem<'a> {
     },
 }
 
-impl<'a> CoreItem<'a> {
+impl<'a> CoreItemView<'a> {
     /// Reads the first item of a section of this kind. Returns it and the bytes after it.
     #[inline(always)]
     fn first(kind: SectionId, bytes: &'a [u8]) -> Result<(Self, &'a [u8]), Refusal> {
@@ -78,7 +91,8 @@ impl<'a> CoreSection<'a> {
     ///
     /// ```
     /// use wenc::tree::CoreEntityType;
-    /// use wenc::{Cause, CoreItem, CoreSections, Part, ReadError};
+    /// use wenc::view::CoreItemView;
+    /// use wenc::{Cause, CoreSections, Part, ReadError};
     ///
     /// // two imports, of which the second ends too early
     /// let module = b"\0asm\x01\0\0\0\x02\x0a\x02\x01m\x01f\0\x05\x01m\x01";
@@ -86,10 +100,10 @@ impl<'a> CoreSection<'a> {
     /// assert_eq!(imports.count(), Some(2));
     ///
     /// let mut items = imports.items();
-    /// let (range, item) = items.next().unwrap()?;
-    /// assert_eq!(range, 11..17);
+    /// let item = items.next().unwrap()?;
+    /// assert_eq!(item.range, 11..17);
     /// let ty = CoreEntityType::Function(5);
-    /// assert_eq!(item, CoreItem::Import { module: "m", name: "f", ty });
+    /// assert_eq!(item.view, CoreItemView::Import { module: "m", name: "f", ty });
     ///
     /// let error = items.next().unwrap().unwrap_err();
     /// assert_eq!((error.offset, error.part), (17, Part::Item(1)));
@@ -126,11 +140,11 @@ impl<'a> CoreSection<'a> {
     }
 }
 
-/// An iterator over the items of a section of a core module, each with its byte offsets in the
-/// module. It ends after an error.
+/// An iterator over the items of a section of a core module. It ends after an error.
 ///
 /// Needs the feature `walk`.
 #[derive(Clone, Debug)]
+#[must_use = "nothing is read before it is iterated over"]
 pub struct CoreItems<'a> {
     /// The byte offset and the id of the section.
     section: (usize, u8),
@@ -166,10 +180,10 @@ impl<'a> CoreItems<'a> {
             Ok(left) => left,
             Err(refusal) => return Some(Err(self.bad(Part::Count, refusal))),
         };
-        match CoreItem::first(kind, self.rest) {
-            Ok((item, rest)) => {
+        match CoreItemView::first(kind, self.rest) {
+            Ok((view, rest)) => {
                 (self.left, self.number, self.rest) = (Ok(left - 1), self.number + 1, rest);
-                Some(Ok((place..self.end - rest.len(), item)))
+                Some(Ok(CoreItem { range: place..self.end - rest.len(), view }))
             }
             Err(refusal) => {
                 // of a section of other items the count exceeds the bytes
@@ -185,10 +199,9 @@ impl<'a> CoreItems<'a> {
 
 /// # Errors
 ///
-/// [`ReadError`] if the count or an item can't be read, or if bytes follow the last
-/// item.
+/// [`ReadError`] if the count or an item can't be read, or if bytes follow the last item.
 impl<'a> Iterator for CoreItems<'a> {
-    type Item = Result<(Range<usize>, CoreItem<'a>), ReadError>;
+    type Item = Result<CoreItem<'a>, ReadError>;
 
     fn next(&mut self) -> Option<Self::Item> {
         let kind = self.kind?;

@@ -11,7 +11,7 @@ use core::ops::Range;
 /// A section of a core module (WebAssembly 3.0, binary format, "Sections").
 ///
 /// Needs the feature `walk`.
-#[derive(Clone, Debug, PartialEq, Eq)]
+#[derive(Clone, Debug, PartialEq, Eq, Hash)]
 pub struct CoreSection<'a> {
     /// Its id.
     pub id: u8,
@@ -54,6 +54,7 @@ impl CoreSection<'_> {
 /// # Ok::<(), ReadError>(())
 /// ```
 #[derive(Clone, Debug)]
+#[must_use = "nothing is read before it is iterated over"]
 pub struct CoreSections<'a> {
     module: &'a [u8],
     rest: &'a [u8],

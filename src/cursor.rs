@@ -49,6 +49,7 @@ pub use walk::{Step, Unread, Walk};
 /// # Ok::<(), ReadError>(())
 /// ```
 #[derive(Clone)]
+#[must_use = "nothing is read before it is iterated over"]
 pub struct Sections<'a> {
     /// The component, or the outermost one around it.
     bytes: &'a [u8],
@@ -189,8 +190,8 @@ pub(crate) fn parts_in(len: usize) -> (usize, Option<usize>) {
 
 /// # Errors
 ///
-/// [`Part::Section`](crate::Part::Section) if the bytes aren't a section, and [`Part::Count`](crate::Part::Count) if a section
-/// lacks its count.
+/// [`Part::Section`](crate::Part::Section) if the bytes aren't a section, and
+/// [`Part::Count`](crate::Part::Count) if a section lacks its count.
 impl<'a> Iterator for Sections<'a> {
     type Item = Result<SectionReader<'a>, ReadError>;
 
@@ -288,6 +289,16 @@ impl<'a> SectionReader<'a> {
         Items::new(self.bytes, self.left)
     }
 }
+
+/// Sections are equal if their bytes and their byte offsets are.
+impl PartialEq for SectionReader<'_> {
+    #[inline]
+    fn eq(&self, other: &Self) -> bool {
+        self.range() == other.range() && self.bytes() == other.bytes()
+    }
+}
+
+impl Eq for SectionReader<'_> {}
 
 impl fmt::Debug for SectionReader<'_> {
     #[inline]

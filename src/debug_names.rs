@@ -28,8 +28,8 @@ mod reader;
 ///
 /// [names]: https://github.com/WebAssembly/component-model/blob/main/design/mvp/Binary.md#name-section
 ///
-/// [`of`](Self::of) returns the names of a component; `From` converts them
-/// to a [`ComponentNameSection`].
+/// [`of`](Self::of) returns the names of a component; `From` converts them to a
+/// [`ComponentNameSection`].
 ///
 /// ```
 /// use wenc::tree::Space;
@@ -73,7 +73,7 @@ impl DebugNames {
     ///
     /// # Panics
     ///
-    /// Where [`try_of`](Self::try_of) fails.
+    /// Panics if [`try_of`](Self::try_of) fails.
     pub fn of(bytes: &[u8]) -> Self {
         or_panic(Self::try_of(bytes))
     }
@@ -82,7 +82,7 @@ impl DebugNames {
     ///
     /// # Errors
     ///
-    /// [`NoMemory`](Error::NoMemory).
+    /// Fails with [`NoMemory`](Error::NoMemory) if an allocation fails.
     pub fn try_of(bytes: &[u8]) -> Result<Self, Error> {
         let (mut names, mut sections) = (Self::new(), Sections::new(bytes).ok());
         while let Some((_, RawSection { id, data })) =
@@ -108,8 +108,8 @@ impl DebugNames {
     ///
     /// # Errors
     ///
-    /// The first subsection that can't be read, or [`NoMemory`](crate::Cause::NoMemory). The names before it
-    /// are added.
+    /// The error of the first subsection that can't be read, or
+    /// [`NoMemory`](crate::Cause::NoMemory) if an allocation fails. The names before it are added.
     pub fn read(&mut self, item: &impl SectionItem) -> Result<(), ReadError> {
         match item.custom() {
             Some((NAMES_LABEL, data)) => self.read_data(data),

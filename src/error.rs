@@ -5,6 +5,24 @@ use core::convert::Infallible;
 use core::fmt;
 
 /// Why a call failed. The receiver is unchanged, except that an encoder leaves its type unfinished.
+///
+/// ```
+/// use wenc::{ComponentBuilder, ComponentTypeRef, Error};
+///
+/// let mut builder = ComponentBuilder::default();
+/// // the encoder of a type is dropped before its last call
+/// _ = builder.type_function(None);
+/// assert_eq!(builder.try_import("f", ComponentTypeRef::Func(0)), Err(Error::Unfinished));
+///
+/// builder.discard_unfinished();
+/// let (ty, mut function) = builder.type_function(None);
+/// function.params([("n", wenc::PrimitiveValType::U8)]).result(None);
+/// assert_eq!(builder.try_import("f", ComponentTypeRef::Func(ty)), Ok(0));
+/// assert_eq!(
+///     builder.finish(),
+///     b"\0asm\x0d\0\x01\0\x07\x08\x01\x40\x01\x01n\x7d\x01\0\x0a\x06\x01\0\x01f\x01\0",
+/// );
+/// ```
 #[derive(Clone, Copy, Debug, PartialEq, Eq, Hash)]
 #[non_exhaustive]
 pub enum Error {

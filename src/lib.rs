@@ -167,7 +167,9 @@ pub use core_items::{CoreItem, CoreItems};
 #[cfg(feature = "walk")]
 pub use core_sections::{CoreSection, CoreSections};
 #[cfg(feature = "walk")]
-pub use cursor::{CountedWalk, Item, Items, OutOfRange, SectionReader, Sections, Step, Unread, Walk};
+pub use cursor::{
+    CountedWalk, Item, Items, OutOfRange, SectionReader, Sections, Step, Unread, Walk,
+};
 #[cfg(feature = "walk")]
 pub use debug_names::{DebugName, DebugNames, NamesReader};
 pub use encode::{Encode, encoding_size};

@@ -4,12 +4,31 @@ use crate::ReadError;
 use crate::proved::wenc_list::list_or_refusal;
 use crate::shim::alloc::Global;
 
-pub use crate::proved::wenc_list::{ListedSection, Listing};
+pub use crate::proved::wenc_list::ListedSection;
+/// A component that was read, with its items as owned values.
+///
+/// ```
+/// use wenc::tree::ItemTree;
+/// use wenc::{Listing, ReadError, list};
+///
+/// /// Returns the names of the imports.
+/// fn imports(listing: Listing) -> Vec<String> {
+///     let items = listing.sections.into_iter().flat_map(|section| section.items);
+///     items.filter_map(|item| match item {
+///         ItemTree::Import { name, .. } => Some(name.name),
+///         _ => None,
+///     }).collect()
+/// }
+///
+/// let component = b"\0asm\x0d\0\x01\0\x07\x05\x01\x40\0\x01\0\x0a\x06\x01\0\x01f\x01\0";
+/// assert_eq!(imports(list(component)?), ["f"]);
+/// # Ok::<(), ReadError>(())
+/// ```
+pub use crate::proved::wenc_list::Listing;
 
-/// Reads a component. Returns its sections with their items and byte offsets, and the number of
-/// indices that the items define ([component model, binary format, "Component
-/// Definitions"][definitions]). The bytes have at most one reading, and this is it. Core modules
-/// and nested components are returned as bytes, which aren't read.
+/// Reads a component. Returns its sections with their items and byte offsets ([component model,
+/// binary format, "Component Definitions"][definitions]). The bytes have at most one reading, and
+/// this is it. Core modules and nested components are returned as bytes, which aren't read.
 ///
 /// Needs the feature `tree`.
 ///
@@ -28,7 +47,8 @@ pub use crate::proved::wenc_list::{ListedSection, Listing};
 ///
 /// # Errors
 ///
-/// The first part that can't be read, or [`NoMemory`](crate::Cause::NoMemory). A count that the bytes can't fill reserves nothing.
+/// The error of the first part that can't be read, or [`NoMemory`](crate::Cause::NoMemory) if
+/// an allocation fails. A count that the bytes can't fill reserves nothing.
 ///
 /// [definitions]: https://github.com/WebAssembly/component-model/blob/main/design/mvp/Binary.md#component-definitions
 ///
@@ -43,7 +63,6 @@ pub use crate::proved::wenc_list::{ListedSection, Listing};
 /// assert_eq!((section.id, section.place), (10, 15));
 /// let name = "f".into();
 /// assert_eq!(section.items[0], ItemTree::Import { name, ty: ComponentTypeRef::Func(0) });
-/// assert_eq!(listing.counts, [0, 0, 0, 0, 0, 0, 0, 0, 1, 0, 0, 0, 1]);
 ///
 /// let error = list(&bytes[..13]).unwrap_err();
 /// assert_eq!((error.offset, error.cause), (8, Cause::Few { place: 10, needed: 5, len: 3 }));

@@ -43,6 +43,7 @@ pub struct Producer<'a> {
 /// # Ok::<(), wenc::ReadError>(())
 /// ```
 #[derive(Clone)]
+#[must_use = "nothing is read before it is iterated over"]
 pub struct ProducersReader<'a> {
     data: &'a [u8],
     /// The field of the next tool.

@@ -51,7 +51,10 @@ pub struct ReadError {
 }
 
 /// What is read.
+///
+/// Needs the feature `walk`.
 #[derive(Clone, Copy, Debug, PartialEq, Eq, Hash)]
+#[non_exhaustive]
 pub enum Format {
     /// A component.
     Component,
@@ -64,6 +67,8 @@ pub enum Format {
 }
 
 /// The first part that can't be read.
+///
+/// Needs the feature `walk`.
 #[derive(Clone, Copy, Debug, PartialEq, Eq, Hash)]
 #[non_exhaustive]
 pub enum Part {
@@ -208,6 +213,22 @@ impl ReadError {
     /// Returns the byte offset of what is wrong in the part, or of the end where bytes are missing.
     pub fn place(&self) -> usize {
         self.cause.place().unwrap_or(self.offset)
+    }
+
+    /// Returns the id of the section whose items can't be read; `None` if it isn't known what can't
+    /// be read.
+    pub(crate) fn section_id(&self) -> Option<ComponentSectionId> {
+        let is_within = matches!(
+            (self.format, self.part),
+            (Format::Component, Part::Section | Part::Count | Part::Item(_) | Part::Rest)
+        );
+        self.id.filter(|_| is_within)?.try_into().ok()
+    }
+
+    /// Returns whether a section exceeds the component that it is in, so that one of their sizes is
+    /// wrong.
+    pub(crate) fn is_cut(&self) -> bool {
+        (self.format, self.part, self.id) == (Format::Component, Part::Section, None)
     }
 
     /// Returns whether the part is a section with an unknown id.

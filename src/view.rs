@@ -44,6 +44,7 @@ use alloc::borrow::Cow;
 #[cfg(feature = "tree")]
 mod copied;
 
+pub use crate::core_items::CoreItemView;
 pub use crate::proved::wenc_list::ItemView;
 pub use crate::proved::wenc_view::composites::{
     CompositeView as CoreCompositeView, GroupView, SubView as CoreSubView,

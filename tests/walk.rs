@@ -2,11 +2,10 @@
 #![cfg(feature = "walk")]
 
 use wenc::tree::{Scope, Space, UsedIndex};
-use wenc::view::{ItemView, TypeView};
+use wenc::view::{CoreItemView, ItemView, TypeView};
 use wenc::{
-    Cause, Component, ComponentNameSection, ComponentSectionId, ComponentTypeRef, CoreItem,
-    CoreSections, DebugNames, OutOfRange, Part, Producer, ProducersReader, ReadError, Sections,
-    Walk,
+    Cause, Component, ComponentNameSection, ComponentSectionId, ComponentTypeRef, CoreSections,
+    DebugNames, OutOfRange, Part, Producer, ProducersReader, ReadError, Sections, Walk,
 };
 
 /// The type of a function, an import of a function of that type, and debug names of the component
@@ -64,7 +63,7 @@ fn indices_are_found() -> Result<(), ReadError> {
     let sections = Sections::new(COMPONENT)?;
     let mut walk = Walk::new(COMPONENT, 0)?.counted()?;
     assert_eq!(walk.by_ref().count(), 6);
-    assert_eq!([Space::Types, Space::Funcs].map(|space| walk.counts().of(space)), [1, 1]);
+    assert_eq!([Space::Types, Space::Funcs].map(|space| walk.counts().of(space)), [Some(1); 2]);
     let (space, scope) = (Space::Types, Scope::Component(0));
     let mut used = Vec::new();
     for item in sections.items() {
@@ -98,8 +97,8 @@ fn core_modules_are_read() {
     let sections: Result<Vec<_>, _> = CoreSections::new(module).expect("a module").collect();
     let sections = sections.expect("they are read");
     let [start, producers] = &sections[..] else { panic!("{sections:?}") };
-    let items: Result<Vec<_>, _> = start.items().collect();
-    assert_eq!(items.expect("they are read"), [(10..11, CoreItem::Start { function: 5 })]);
+    let item = start.items().next().expect("an item").expect("it is read");
+    assert_eq!((item.range, item.view), (10..11, CoreItemView::Start { function: 5 }));
     assert_eq!(producers.name, Some(ProducersReader::SECTION));
     let rust = Producer { field: "language", name: "Rust", version: "2024" };
     assert!(ProducersReader::new(producers.data).eq([Ok(rust)]));

@@ -151,7 +151,7 @@ pub const DERIVED_TOO: [(&str, &str); 40] = [
 
 /// Methods and fields that stay in this crate: contracts require of them what nothing tests, or
 /// they are what the facade has in another form.
-pub const NARROWED: [(&str, &str); 10] = [
+pub const NARROWED: [(&str, &str); 13] = [
     ("ComponentDecls", "bytes"),
     ("ComponentDecls", "depth_left"),
     ("ComponentDecls", "left"),
@@ -159,8 +159,11 @@ pub const NARROWED: [(&str, &str); 10] = [
     ("InstanceDecls", "bytes"),
     ("InstanceDecls", "depth_left"),
     ("InstanceDecls", "left"),
+    ("ItemTree", "indices"),
+    ("ItemView", "indices"),
     ("ListOf", "bytes"),
     ("ListOf", "left"),
+    ("Listing", "counts"),
     ("NameTree", "as_name"),
 ];
 

@@ -67,8 +67,8 @@ impl Listed {
 
     /// Adds an item of a component that defines this many indices before it.
     fn add(&mut self, item: &wenc::Item<'_>, counts: &IndexCounts) -> Result<(), ReadError> {
-        let index = item.view.defined_indices().map_or(0, |(space, _)| counts.of(space));
-        push(&mut self.items, Item { place: item.range.start, index })
+        let index = item.view.defined_indices().and_then(|(space, _)| counts.of(space));
+        push(&mut self.items, Item { place: item.range.start, index: index.unwrap_or(0) })
     }
 
     /// Returns the number of sections.
@@ -78,8 +78,8 @@ impl Listed {
 
     /// Returns the number of items in an index space.
     pub(crate) fn count(&self, space: Space) -> Result<u32> {
-        let count = u32::try_from(self.counts.of(space));
-        count.map_err(|_| CallError::from(Status::TooLarge).of(c"space"))
+        let count = self.counts.of(space).and_then(|count| u32::try_from(count).ok());
+        count.ok_or(CallError::from(Status::TooLarge).of(c"space"))
     }
 
     fn section(&self, number: usize) -> Result<&Section> {

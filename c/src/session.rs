@@ -129,7 +129,7 @@ impl Session {
                 _ => Err(CallError::bad(c"kind")),
             },
             _ => {
-                let space = ItemView::Alias(alias).indices().map(|(space, _)| space);
+                let space = ItemView::Alias(alias).defined_indices().map(|(space, _)| space);
                 declared!(self, space, |to| to.try_alias(alias))
             }
         }

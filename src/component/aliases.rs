@@ -6,7 +6,30 @@ use crate::encode::encode;
 use crate::proved::wasm_encoder as proved;
 use crate::twins::twins;
 
-pub use proved::{Alias, ComponentOuterAliasKind};
+/// An alias, as an item or as a declaration of a type.
+///
+/// ```
+/// use wenc::{Alias, ComponentBuilder, ComponentExportKind, ComponentTypeRef, InstanceType};
+/// use wenc::PrimitiveValType::U8;
+///
+/// // an instance that exports a function, which is exported again
+/// let mut interface = InstanceType::new();
+/// interface.ty().function().params([("n", U8)]).result(None);
+/// interface.export("f", ComponentTypeRef::Func(0));
+/// let mut builder = ComponentBuilder::default();
+/// let ty = builder.type_instance(None, &interface);
+/// let instance = builder.import("i", ComponentTypeRef::Instance(ty));
+/// let kind = ComponentExportKind::Func;
+/// let f = builder.alias(None, Alias::InstanceExport { instance, kind, name: "f" });
+/// builder.export("g", kind, f, None);
+/// assert_eq!(
+///     builder.finish(),
+///     b"\0asm\x0d\0\x01\0\x07\x11\x01\x42\x02\x01\x40\x01\x01n\x7d\x01\0\x04\0\x01f\x01\0\
+///       \x0a\x06\x01\0\x01i\x05\0\x06\x06\x01\x01\0\0\x01f\x0b\x07\x01\0\x01g\x01\0\0",
+/// );
+/// ```
+pub use proved::Alias;
+pub use proved::ComponentOuterAliasKind;
 
 encode! {
     Alias<'_>, alias => *alias;

@@ -11,6 +11,23 @@ use crate::core::ValType;
 use crate::proved::wasm_encoder::{AddsBuiltin, AddsSlot};
 use crate::twins::twins;
 
+/// An option of a lifted or a lowered function, or of a builtin.
+///
+/// ```
+/// use wenc::{CanonicalOption, ComponentBuilder, ComponentTypeRef, PrimitiveValType};
+///
+/// // an import that core modules can call
+/// let mut builder = ComponentBuilder::default();
+/// let (ty, mut function) = builder.type_function(None);
+/// function.params([("n", PrimitiveValType::U8)]).result(None);
+/// let f = builder.import("f", ComponentTypeRef::Func(ty));
+/// builder.lower_func(None, f, [CanonicalOption::UTF8]);
+/// assert_eq!(
+///     builder.finish(),
+///     b"\0asm\x0d\0\x01\0\x07\x08\x01\x40\x01\x01n\x7d\x01\0\x0a\x06\x01\0\x01f\x01\0\
+///       \x08\x06\x01\x01\0\0\x01\0",
+/// );
+/// ```
 pub use crate::proved::wasm_encoder::CanonicalOption;
 
 crate::encode::encode! {

@@ -1,17 +1,23 @@
 //! A walk that counts indices.
 
 use super::{Item, Step, Unread, Walk};
-use crate::read_error::{Part, ReadError};
+use crate::ReadError;
 use crate::shim::vec::VecUsing;
 use crate::tree::{IndexCounts, Scopes, Space};
 use alloc::vec::Vec;
 use core::iter::FusedIterator;
+use core::mem;
 
 /// A [`Walk`] that counts the indices that the components define.
 ///
 /// Needs the feature `walk`.
 ///
-/// It takes 104 bytes of memory for each component around the next step, more than a walk.
+/// After what can't be read, the number of indices isn't known in the spaces in which it may define
+/// some: those of items of its section, also where bytes are behind the last item; all of the
+/// component, if it has no known section; and all of the components around it, too, if a section
+/// exceeds its component, since then a size may be wrong, and what follows may be a part of it.
+///
+/// It takes 104 bytes of memory for each open component, more than a walk.
 ///
 /// ```
 /// use wenc::tree::Space;
@@ -25,13 +31,15 @@ use core::iter::FusedIterator;
 ///         counts.push([Space::Types, Space::Funcs].map(|space| walk.counts().of(space)));
 ///     }
 /// }
-/// assert_eq!(counts, [[0, 0], [1, 0]]);
+/// assert_eq!(counts, [[Some(0), Some(0)], [Some(1), Some(0)]]);
 /// # Ok::<(), ReadError>(())
 /// ```
 #[derive(Clone, Debug)]
+#[must_use = "nothing is read before it is iterated over"]
 pub struct CountedWalk<'a> {
     walk: Walk<'a>,
-    /// What the open components define so far, the outermost first.
+    /// What the components define before the last step, the outermost first: one more after the
+    /// last step entered one, or left one.
     counts: Vec<IndexCounts>,
     last: Last,
 }
@@ -39,11 +47,12 @@ pub struct CountedWalk<'a> {
 /// What the step that was returned last does.
 #[derive(Clone, Copy, Debug)]
 enum Last {
-    Nothing,
-    /// It defines indices.
+    /// It defines indices, or none.
     Define(Option<(Space, u32)>),
-    /// It opens a component.
-    Enter,
+    /// It defines the component that it leaves.
+    Leave,
+    /// It passes over what can't be read.
+    Pass(ReadError),
 }
 
 impl<'a> Walk<'a> {
@@ -52,33 +61,34 @@ impl<'a> Walk<'a> {
     ///
     /// # Errors
     ///
-    /// [`NoMemory`](crate::Cause::NoMemory).
+    /// Fails with [`NoMemory`](crate::Cause::NoMemory) if an allocation fails.
     pub fn counted(self) -> Result<CountedWalk<'a>, ReadError> {
         let mut counts = Vec::new();
         for _ in 0..=self.depth() {
             counts.push_using(IndexCounts::default()).map_err(|_| ReadError::memory())?;
         }
-        Ok(CountedWalk { walk: self, counts, last: Last::Nothing })
+        Ok(CountedWalk { walk: self, counts, last: Last::Define(None) })
     }
 }
 
 impl<'a> CountedWalk<'a> {
-    /// Returns the number of components around the innermost one.
+    /// Returns what [`Walk::depth`] returns.
     pub fn depth(&self) -> usize {
         self.walk.depth()
     }
 
-    /// Returns how many indices the innermost component defines before the last step.
+    /// Returns how many indices the component at this [`depth`](Self::depth) defines before the last
+    /// step; at the end, those of the outermost component.
     pub fn counts(&self) -> &IndexCounts {
         static NONE: IndexCounts = IndexCounts::NONE;
-        self.counts.last().unwrap_or(&NONE)
+        self.counts.get(self.depth()).unwrap_or(&NONE)
     }
 
     /// Returns the index spaces of the open components, as they are before the last step: those of
     /// the item that it is, in which [`node_in`](crate::view::ItemView::node_in) finds what is out
     /// of range.
     pub fn scopes(&self) -> Scopes<'_> {
-        Scopes::new(&self.counts)
+        Scopes::new(self.counts.get(..=self.depth()).unwrap_or_default())
     }
 
     /// Does what [`Walk::go_to`] does.
@@ -88,33 +98,27 @@ impl<'a> CountedWalk<'a> {
 
     /// Ends the walk. Returns the error.
     pub(super) fn end(&mut self, error: ReadError) -> ReadError {
-        self.last = Last::Nothing;
+        self.last = Last::Define(None);
         self.walk.end(error)
     }
 
-    /// Does what the last step does.
+    /// Counts what the last step defines.
     fn settle(&mut self) {
-        match self.last {
-            Last::Nothing => return,
-            Last::Define(defined) => {
-                if let Some(counts) = self.counts.last_mut() {
-                    counts.define(defined);
-                }
+        let depth = self.depth();
+        let defined = match mem::replace(&mut self.last, Last::Define(None)) {
+            Last::Define(defined) => defined,
+            Last::Leave => {
+                self.counts.truncate(depth + 1);
+                Some((Space::Components, 1))
             }
-            // memory is reserved
-            Last::Enter => self.counts.push(IndexCounts::default()),
-        }
-        self.last = Last::Nothing;
-    }
-
-    /// Counts what isn't read, which may define any number of indices.
-    #[cold]
-    fn pass(&mut self, error: &ReadError) {
-        if let Some(counts) = self.counts.last_mut().filter(|_| error.part != Part::Rest) {
-            match error.id.map(u8::try_into) {
-                Some(Ok(section)) => counts.add_unread(section),
-                _ => counts.add_unknown(),
+            Last::Pass(error) => {
+                let from = if error.is_cut() { 0 } else { depth };
+                self.counts.iter_mut().skip(from).for_each(|counts| counts.pass(&error));
+                None
             }
+        };
+        if let Some(counts) = self.counts.get_mut(depth) {
+            counts.define(defined);
         }
     }
 }
@@ -127,18 +131,14 @@ impl<'a> Iterator for CountedWalk<'a> {
         let step = self.walk.next();
         match &step {
             Some(Step::Item(Item { view, .. })) => self.last = Last::Define(view.defined_indices()),
-            Some(Step::Enter(item)) => match self.counts.try_reserve(1) {
-                Ok(()) => self.last = Last::Enter,
-                Err(_) => {
+            Some(Step::Enter(item)) => {
+                if self.counts.push_using(IndexCounts::default()).is_err() {
                     let (error, range) = (self.end(ReadError::memory()), item.range.clone());
                     return Some(Step::Unread(Unread { error, range, count: 0 }));
                 }
-            },
-            Some(Step::Leave) => {
-                self.counts.pop();
-                self.last = Last::Define(Some((Space::Components, 1)));
             }
-            Some(Step::Unread(unread)) => self.pass(&unread.error),
+            Some(Step::Leave) => self.last = Last::Leave,
+            Some(Step::Unread(unread)) => self.last = Last::Pass(unread.error),
             Some(Step::Section(_)) | None => {}
         }
         step

@@ -25,6 +25,7 @@ pub struct Item<'a> {
 ///
 /// Needs the feature `walk`.
 #[derive(Clone)]
+#[must_use = "nothing is read before it is iterated over"]
 pub struct Items<'a> {
     bytes: &'a [u8],
     /// The items that are left; `None` after an error.

@@ -11,7 +11,7 @@ use core::iter::{self, FusedIterator};
 /// [`Walk::out_of_range`] finds it.
 ///
 /// Needs the feature `walk`.
-#[derive(Clone, Copy, Debug, PartialEq, Eq)]
+#[derive(Clone, Copy, Debug, PartialEq, Eq, Hash)]
 pub struct OutOfRange {
     /// The byte offset of the item, from the start of the outermost component.
     pub place: usize,

@@ -1,11 +1,12 @@
 //! A component with those nested in it, step by step.
 
 use super::{Item, Items, SectionReader, Sections};
+use crate::ComponentSectionId;
 use crate::proved::wenc_list as proved;
 use crate::read_error::{Format, ReadError};
+use crate::shim::alloc::AllocFailed;
+use crate::shim::vec::VecUsing;
 use crate::view::ItemView;
-use crate::ComponentSectionId;
-use alloc::collections::TryReserveError;
 use alloc::vec::Vec;
 use core::iter::FusedIterator;
 use core::mem;
@@ -42,6 +43,7 @@ use core::ops::Range;
 /// # Ok::<(), ReadError>(())
 /// ```
 #[derive(Clone, Debug)]
+#[must_use = "nothing is read before it is iterated over"]
 pub struct Walk<'a> {
     bytes: &'a [u8],
     limit: usize,
@@ -73,7 +75,7 @@ enum Last<'a> {
 /// A step of a [`Walk`].
 ///
 /// Needs the feature `walk`.
-#[derive(Clone, Debug)]
+#[derive(Clone, Debug, PartialEq, Eq)]
 #[non_exhaustive]
 pub enum Step<'a> {
     /// A section, whose items follow.
@@ -89,10 +91,29 @@ pub enum Step<'a> {
     Unread(Unread),
 }
 
-/// What a [`Walk`] passes over.
+/// What a [`Walk`] passes over, for the error of its first part. The steps after it are those of
+/// what follows.
 ///
 /// Needs the feature `walk`.
-#[derive(Clone, Debug, PartialEq, Eq)]
+///
+/// ```
+/// use wenc::{Part, ReadError, Step, Walk};
+///
+/// // two types, the second of which is changed to something else, and an import
+/// let mut component =
+///     *b"\0asm\x0d\0\x01\0\x07\x06\x02\x40\0\x01\0\x7d\x0a\x06\x01\0\x01f\x01\0";
+/// component[15] = 0xff;
+/// let mut walk = Walk::new(&component, 100)?;
+/// let unread = walk.find_map(|step| match step {
+///     Step::Unread(unread) => Some(unread),
+///     _ => None,
+/// });
+/// let unread = unread.expect("the second type");
+/// assert_eq!((unread.range, unread.count, unread.error.part), (15..16, 1, Part::Item(1)));
+/// assert!(matches!(walk.next(), Some(Step::Section(section)) if section.id() == 10));
+/// # Ok::<(), ReadError>(())
+/// ```
+#[derive(Clone, Debug, PartialEq, Eq, Hash)]
 #[non_exhaustive]
 pub struct Unread {
     /// Why it can't be read.
@@ -118,7 +139,9 @@ impl<'a> Walk<'a> {
         Ok(Self { bytes, limit, innermost, around, items: None, last: Last::Nothing })
     }
 
-    /// Returns the number of components around the innermost one.
+    /// Returns the number of components around the one that the last step is of: 0 for the outermost
+    /// one. [`Step::Enter`] is of the component that has the nested one as an item, and
+    /// [`Step::Leave`] as well.
     pub fn depth(&self) -> usize {
         self.around.len
     }
@@ -160,10 +183,6 @@ impl<'a> Walk<'a> {
     fn enter(&mut self, section: SectionReader<'a>) -> Step<'a> {
         let Range { start: place, end } = section.range();
         let (start, bytes) = (section.left.reached(), section.left.rest);
-        if self.around.reserve().is_err() {
-            let error = self.end(ReadError::memory());
-            return Step::Unread(Unread { error, range: start..end, count: 0 });
-        }
         let (next, error) = match proved::Sections::new(bytes) {
             _ if self.depth() >= self.limit => {
                 (start, Some(ReadError::depth(place, start, self.limit)))
@@ -183,13 +202,14 @@ impl<'a> Walk<'a> {
         match mem::replace(&mut self.last, Last::Nothing) {
             Last::Nothing => None,
             Last::Section(section) => Some(self.enter(section)),
-            Last::Enter(mut open, error) => {
+            Last::Enter(mut open, mut error) => {
                 let range = open.next..open.end;
                 if error.is_some() {
                     open.next = open.end;
                 }
-                // memory is reserved
-                self.around.push(mem::replace(&mut self.innermost, open));
+                if self.around.push(mem::replace(&mut self.innermost, open)).is_err() {
+                    error = Some(self.end(ReadError::memory()));
+                }
                 error.map(|error| Step::Unread(Unread { error, range, count: 0 }))
             }
         }
@@ -269,18 +289,15 @@ struct Around {
 }
 
 impl Around {
-    /// Reserves memory for one more.
-    fn reserve(&mut self) -> Result<(), TryReserveError> {
-        if self.len < FEW { Ok(()) } else { self.more.try_reserve(1) }
-    }
-
-    fn push(&mut self, open: Open) {
+    /// Adds one, which is then the innermost of them.
+    fn push(&mut self, open: Open) -> Result<(), AllocFailed<Open>> {
         match self.few.get_mut(self.len) {
             Some(place) => *place = open,
-            None => self.more.push(open),
+            None => self.more.push_using(open)?,
         }
         // 32 bits: each is that of a component in the one before it, of 8 bytes at least.
         self.len += 1;
+        Ok(())
     }
 
     fn pop(&mut self) -> Option<Open> {

@@ -41,6 +41,7 @@ pub struct DebugName<'a> {
 /// assert_eq!(names.next(), None);
 /// ```
 #[derive(Clone, Debug)]
+#[must_use = "nothing is read before it is iterated over"]
 pub struct NamesReader<'a> {
     data: &'a [u8],
     /// The bytes that are left; `None` after an error.

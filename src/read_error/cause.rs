@@ -10,6 +10,31 @@ use core::ops::RangeInclusive;
 /// Why bytes can't be read, and from which byte on. Each place is a byte offset.
 ///
 /// Needs the feature `walk`.
+///
+/// ```
+/// use wenc::{Cause, Sections};
+///
+/// // an import of a function, of type 0
+/// let component = b"\0asm\x0d\0\x01\0\x07\x05\x01\x40\0\x01\0\x0a\x06\x01\0\x01f\x01\0";
+/// let cause = |bytes: &[u8]| {
+///     let error = Sections::new(bytes).ok()?.items().find_map(Result::err)?;
+///     Some((error.cause, error.cause.to_string()))
+/// };
+/// assert_eq!(cause(component), None);
+///
+/// // its kind is changed
+/// let mut changed = *component;
+/// changed[21] = 9;
+/// let Some((Cause::Byte { place: 21, byte: 9, expected }, text)) = cause(&changed) else {
+///     panic!("the byte isn't expected")
+/// };
+/// assert_eq!(expected.ranges().collect::<Vec<_>>(), [0..=5]);
+/// assert_eq!(text, "0x09 at 0x15, where 0x00 to 0x05 is expected");
+///
+/// // its last byte is missing
+/// let few = Cause::Few { place: 17, needed: 6, len: 5 };
+/// assert_eq!(cause(&component[..22]).map(|(cause, _)| cause), Some(few));
+/// ```
 #[derive(Clone, Copy, Debug, PartialEq, Eq, Hash)]
 #[non_exhaustive]
 pub enum Cause {

@@ -2,7 +2,7 @@
 
 use super::meaning::Declarations;
 use super::paths::{At, Paths};
-use super::{Definitions, Entry, Frame, Instances, Meaning, NONE, ScopeFault};
+use super::{Definitions, Entry, Frame, Instances, Meaning, NONE, ScopeFault, UNKNOWN};
 use crate::shim::vec::VecUsing;
 use crate::tree::{IndexCounts, Space};
 use crate::view::{CoreInstanceView, InstanceView, ItemView};
@@ -297,7 +297,7 @@ impl<'a> Reader<'a> {
         };
         if let Some((space, count)) = meaning.defined().filter(|_| !is_list) {
             let Open { counts, assumed, .. } = &mut self.open[innermost];
-            (entry.count, entry.first) = (count, counts.of(space));
+            (entry.count, entry.first) = (count, counts.of(space).unwrap_or(UNKNOWN));
             counts.define(Some((space, count)));
             assumed.iter_mut().for_each(|counts| counts.define(Some((space, count))));
             self.chain(space, number, &mut entry);

@@ -68,7 +68,7 @@ impl Reader<'_> {
     pub fn settle(&mut self, item: &ItemView<'_>) {
         let Some(open) = self.open.last_mut() else { return };
         let Some(assumed) = open.assumed else { return };
-        let (end, mut is_last) = (assumed.of(Space::CoreFuncs), false);
+        let (end, mut is_last) = (assumed.of(Space::CoreFuncs).unwrap_or(UNKNOWN), false);
         item.node().each_index(|of| {
             let is_own = (of.space, of.scope) == (Space::CoreFuncs, Scope::Component(0));
             is_last |= is_own && u64::from(of.index) + 1 == end;
@@ -77,7 +77,7 @@ impl Reader<'_> {
             (open.counts, open.assumed) = (assumed, None);
             let newest = self.all.frames[open.scope as usize].newest;
             for space in [Space::CoreFuncs, Space::Funcs] {
-                self.number(newest[space.number()], assumed.of(space));
+                self.number(newest[space.number()], assumed.of(space).unwrap_or(UNKNOWN));
             }
         }
     }

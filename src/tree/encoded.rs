@@ -1,27 +1,29 @@
 //! Which bytes of an item each of its values has.
 
 use super::Node;
-use super::node::{Child, Fields};
-use crate::Item;
+use super::fields::{Layout, Named, Part, Place, Tags, Tree};
+use super::node::Child;
+use crate::{CoreItem, Item};
 use core::ops::Range;
 
 /// A step through the bytes of an item, as [`Item::each_encoded_part`] makes them.
-#[derive(Clone, Copy, Debug)]
+#[derive(Clone, Debug)]
 #[non_exhaustive]
 pub enum Encoded<'a> {
     /// A value begins: the item itself, or one within the value that is open.
     Begin {
-        /// The name of the field that it is; empty for elements and what options and variants have.
+        /// The name of the field that it is; a number in a tuple, and empty for elements of lists and
+        /// for what options and variants have.
         field: &'static str,
         /// The byte offset of its first byte, also if it has none.
         offset: usize,
-        /// The value. What other bytes tell has none of its own, such as whether a function is
-        /// asynchronous.
+        /// The value. What the bytes of another one tell has none of its own, such as whether a
+        /// function is asynchronous.
         node: Node<'a>,
     },
     /// The byte offsets of some bytes of the value that is open, apart from those of values within
-    /// it.
-    Bytes(usize, usize),
+    /// it, and the value.
+    Bytes(Range<usize>, Node<'a>),
     /// The value that is open ends.
     End,
 }
@@ -53,11 +55,7 @@ impl Item<'_> {
         bytes: &[u8],
         mut visit: impl FnMut(Range<usize>, Node<'_>),
     ) -> bool {
-        self.told(bytes, &mut |step, node| {
-            if let Encoded::Bytes(start, end) = step {
-                visit(start..end, node);
-            }
-        })
+        each_encoded(&self.view, &self.range, bytes, &mut visit)
     }
 
     /// Calls a function with each value of the item as it begins and ends, and with its bytes
@@ -79,44 +77,70 @@ impl Item<'_> {
     ///         fields.push((field, offset));
     ///     }
     /// }));
-    /// // the import, its name with options, that name, its type, and the index of that
+    /// // the name of the import without its options, its type, and the index of that
     /// let [.., name, ty, index] = fields[..] else { panic!("it has fields") };
     /// assert_eq!((name, ty, index), (("name", 19), ("ty", 21), ("", 22)));
     /// # Ok::<(), ReadError>(())
     /// ```
     pub fn each_encoded_part(&self, bytes: &[u8], mut visit: impl FnMut(Encoded<'_>)) -> bool {
-        self.told(bytes, &mut |step, _| visit(step))
-    }
-
-    fn told(&self, bytes: &[u8], visit: &mut dyn FnMut(Encoded<'_>, Node<'_>)) -> bool {
-        let Some(bytes) = bytes.get(..self.range.end) else { return false };
-        let (at, is_wrong) = (self.range.start, false);
-        let mut places = Places { bytes, at, visit, is_wrong };
-        places.value("", self.view.node(), ITEM);
-        !places.is_wrong && places.at == bytes.len()
+        each_part(&self.view, &self.range, bytes, true, &mut visit)
     }
 }
 
-/// The place of an item, which isn't within a value.
-const ITEM: Within = Within("item", "");
-
-/// The value around a value, and the name of the field that it is.
-#[derive(Clone, Copy)]
-struct Within(&'static str, &'static str);
-
-impl Within {
-    /// Returns the number of bytes in front of a value that may be absent: if it is there, and if
-    /// it isn't.
-    fn option(self) -> (usize, usize) {
-        match self {
-            Self("Export" | "CaseTree", "ty")
-            | Self("Result", "ok" | "err")
-            | Self("Future" | "Stream", _)
-            | Self("Resource", "dtor") => (1, 1),
-            Self("Func", "result") | Self("TaskReturn", "ty") => (1, 2),
-            _ => (0, 0),
-        }
+impl CoreItem<'_> {
+    /// Does what [`Item::each_encoded`] does, given the bytes of the core module.
+    ///
+    /// ```
+    /// use wenc::{CoreSections, ReadError};
+    ///
+    /// // an export of function 5
+    /// let module = b"\0asm\x01\0\0\0\x07\x05\x01\x01f\0\x05";
+    /// let item = CoreSections::new(module)?.next().expect("a section")?.items().next().unwrap()?;
+    /// let mut places = Vec::new();
+    /// assert!(item.each_encoded(module, |range, _| places.push(range)));
+    /// assert_eq!(places, [11..13, 13..14, 14..15]);
+    /// # Ok::<(), ReadError>(())
+    /// ```
+    pub fn each_encoded(
+        &self,
+        module: &[u8],
+        mut visit: impl FnMut(Range<usize>, Node<'_>),
+    ) -> bool {
+        each_encoded(&self.view, &self.range, module, &mut visit)
     }
+
+    /// Does what [`Item::each_encoded_part`] does, given the bytes of the core module.
+    pub fn each_encoded_part(&self, module: &[u8], mut visit: impl FnMut(Encoded<'_>)) -> bool {
+        each_part(&self.view, &self.range, module, true, &mut visit)
+    }
+}
+
+/// Calls a function with each value within an item that has bytes of its own, of these bytes.
+fn each_encoded(
+    item: &dyn Tree,
+    range: &Range<usize>,
+    bytes: &[u8],
+    visit: &mut dyn FnMut(Range<usize>, Node<'_>),
+) -> bool {
+    each_part(item, range, bytes, false, &mut |step| {
+        if let Encoded::Bytes(range, node) = step {
+            visit(range, node);
+        }
+    })
+}
+
+/// Calls a function with the bytes of each value, and if wanted with each value before and after.
+fn each_part(
+    item: &dyn Tree,
+    range: &Range<usize>,
+    bytes: &[u8],
+    has_values: bool,
+    visit: &mut dyn FnMut(Encoded<'_>),
+) -> bool {
+    let Some(bytes) = bytes.get(..range.end) else { return false };
+    let mut places = Places { bytes, at: range.start, visit, has_values, is_only: false, is_wrong: false };
+    places.value("", Child::new(item, Place::default()));
+    !places.is_wrong && places.at == bytes.len()
 }
 
 struct Places<'v> {
@@ -124,7 +148,11 @@ struct Places<'v> {
     bytes: &'v [u8],
     /// The byte offset of the next value.
     at: usize,
-    visit: &'v mut dyn FnMut(Encoded<'_>, Node<'_>),
+    visit: &'v mut dyn FnMut(Encoded<'_>),
+    /// Whether it is called with values, too.
+    has_values: bool,
+    /// Whether the next value is what an option or a variant has.
+    is_only: bool,
     is_wrong: bool,
 }
 
@@ -134,11 +162,19 @@ impl Places<'_> {
         let end = self.at.saturating_add(len);
         self.is_wrong |= end > self.bytes.len();
         if !self.is_wrong && len > 0 {
-            (self.visit)(Encoded::Bytes(self.at, end), node);
+            (self.visit)(Encoded::Bytes(self.at..end, node));
             self.at = end;
         }
     }
 
+    /// Takes bytes that tell what a value is.
+    fn tag(&mut self, len: u8, value: Child<'_>) {
+        if len > 0 {
+            self.own(len.into(), value.node());
+        }
+    }
+
+    /// Returns the next byte.
     fn byte(&self) -> u8 {
         self.bytes.get(self.at).copied().unwrap_or(0)
     }
@@ -161,196 +197,131 @@ impl Places<'_> {
         let before = self.bytes[self.at..].iter().take_while(|byte| **byte >= 0x80).count() + 1;
         let content = self.bytes.get(self.at + before..).and_then(|rest| rest.get(..text.len()));
         self.is_wrong |= content != Some(text.as_bytes());
-        self.own(before + text.len(), node);
+        self.own(before.saturating_add(text.len()), node);
     }
 
-    fn child(&mut self, field: &'static str, child: Child<'_>, within: Within) {
-        self.value(field, child.node(), within);
-    }
-
-    fn value(&mut self, field: &'static str, node: Node<'_>, within: Within) {
-        (self.visit)(Encoded::Begin { field, offset: self.at, node }, node);
-        self.node(node, within);
-        (self.visit)(Encoded::End, node);
-    }
-
-    /// Takes those of these fields that bytes of another value tell.
-    fn implied(&mut self, fields: Fields<'_>, names: &[&str]) {
-        for (field, child) in fields.iter().filter(|(field, _)| names.contains(field)) {
-            let node = child.node();
-            (self.visit)(Encoded::Begin { field, offset: self.at, node }, node);
-            (self.visit)(Encoded::End, node);
-        }
-    }
-
-    /// Takes these fields of a value.
-    fn fields(&mut self, owner: &'static str, fields: Fields<'_>, names: &[&str]) {
-        for name in names {
-            let field = fields.iter().find(|(of, _)| of == name);
-            self.is_wrong |= field.is_none();
-            if let Some((name, child)) = field {
-                self.child(name, child, Within(owner, name));
+    /// Takes a value without fields.
+    fn leaf(&mut self, node: Node<'_>, Tags { absent, .. }: Tags) {
+        match node {
+            Node::Absent => self.own(absent.into(), node),
+            Node::Number(number) => self.number(Some(number), node),
+            Node::Index { index, .. } => self.number(Some(index.into()), node),
+            Node::Text(text) => self.text(text, node),
+            Node::Bytes(bytes) => self.own(bytes.len(), node),
+            Node::Flag(_) => self.own(1, node),
+            Node::List(list) => {
+                self.number(u64::try_from(list.len()).ok(), node);
+                list.for_each(|child| self.value("", child));
             }
+            _ => self.is_wrong = true,
         }
     }
 
-    fn node(&mut self, node: Node<'_>, within: Within) {
+    /// Takes a value, which is the field of this name.
+    fn value(&mut self, field: &'static str, value: Child<'_>) {
         if self.is_wrong {
             return;
         }
-        match node {
-            Node::Absent => self.own(within.option().1, node),
-            Node::Present(child) => {
-                self.own(within.option().0, node);
-                self.child("", child, within);
-            }
-            Node::Number(number) => self.number(Some(number), node),
-            Node::Index { index, .. } | Node::OutOfRange { index, .. } => {
-                self.number(Some(index.into()), node);
-            }
-            Node::Text(text) => self.text(text, node),
-            Node::Bytes(bytes) => self.own(bytes.len(), node),
-            // some are cancellable
-            Node::Word(_) if within.0 == "Canon" => self.own(self.bytes.len() - self.at, node),
-            Node::Word("Module") if self.byte() == 0 => self.own(2, node),
-            Node::Flag(_) | Node::Word(_) => self.own(1, node),
-            Node::List(list) => {
-                self.number(u64::try_from(list.len()).ok(), node);
-                list.for_each(|child| self.child("", child, within));
-            }
-            Node::Tuple(fields) => {
-                fields.iter().for_each(|(name, child)| self.child(name, child, Within("", "")));
-            }
-            Node::Variant(name, child) => {
-                self.own(tag_of(name, child.node(), within), node);
-                if matches!(name, "WaitableSetWait" | "WaitableSetPoll") {
-                    self.own(1, node);
-                }
-                self.child("", child, Within(name, ""));
-            }
-            Node::Record(name, fields) => self.record(name, fields, node),
-            Node::Struct(name, fields) => self.variant(name, fields, node, within),
+        if !self.has_values {
+            return self.within(value);
         }
+        let (field, node) = (if self.is_only { "" } else { field }, value.node());
+        self.is_only = matches!(node, Node::Present(_) | Node::Variant(..));
+        (self.visit)(Encoded::Begin { field, offset: self.at, node });
+        self.within(value);
+        (self.visit)(Encoded::End);
+        self.is_only = false;
     }
 
-    fn record(&mut self, name: &'static str, fields: Fields<'_>, node: Node<'_>) {
-        match name {
-            "NameTree" => {
-                let form = self.byte();
-                self.own(1, node);
-                self.fields(name, fields, &["name"]);
-                if form == 2 {
-                    let count = self.byte();
-                    self.number(None, node);
-                    for _ in 0..count {
-                        let kind = usize::from(self.byte());
-                        self.own(1, node);
-                        let names = ["implements", "version_suffix", "external_id"];
-                        self.fields(name, fields, names.get(kind..=kind).unwrap_or(&["?"]));
+    /// Takes the bytes of a value, with the values within it.
+    fn within(&mut self, value: Child<'_>) {
+        let (layout, fields) = match value.layout() {
+            Ok(laid_out) => laid_out,
+            Err(node) => return self.leaf(node, value.tags()),
+        };
+        match layout {
+            Layout::Tag(len) => {
+                self.tag(len, value);
+                fields.into_iter().flatten().for_each(|(name, child)| self.value(name, child));
+            }
+            Layout::Parts(parts) => {
+                self.implied(&fields, |number| {
+                    !parts.iter().any(|part| matches!(part, Part::Field(of) if *of == number))
+                });
+                for part in parts {
+                    match *part {
+                        Part::Own(len) => self.tag(len, value),
+                        Part::Field(number) => self.field(&fields, number),
                     }
                 }
             }
-            "CaseTree" => {
-                self.fields(name, fields, &["name", "ty"]);
-                self.own(1, node);
+            Layout::Present => {
+                self.tag(value.tags().present, value);
+                self.field(&fields, 0);
             }
-            "CoreSubType" => {
-                // apart from a group, one that isn't final would begin as a module type does
-                if self.byte() == 0 {
-                    self.own(1, node);
-                }
-                // a type that is final and has no supertype may be written alone
-                if matches!(self.byte(), 0x4f | 0x50) {
-                    self.fields(name, fields, &["is_final"]);
-                    self.number(None, node);
-                    self.fields(name, fields, &["supertype_idx"]);
-                } else {
-                    self.implied(fields, &["is_final"]);
-                }
-                self.fields(name, fields, &["composite_type"]);
-            }
-            "CoreTableType" => {
-                self.fields(name, fields, &["element_type"]);
-                self.own(1, node);
-                self.implied(fields, &["table64", "shared"]);
-                self.fields(name, fields, &["minimum", "maximum"]);
-            }
-            "CoreMemoryType" => {
-                self.own(1, node);
-                self.implied(fields, &["memory64", "shared"]);
-                self.fields(name, fields, &["minimum", "maximum"]);
-            }
-            "CoreTagType" => {
-                self.own(1, node);
-                self.fields(name, fields, &["func_type_idx"]);
-            }
-            "CoreRefType" => {
+            Layout::Name => self.name(value, &fields),
+            Layout::SubType => self.sub_type(value, &fields),
+            Layout::RefType => {
+                // a reference to an abstract type may be written as one byte
                 if matches!(self.byte(), 0x63 | 0x64) {
-                    self.fields(name, fields, &["nullable"]);
+                    self.field(&fields, 0);
                 } else {
-                    self.implied(fields, &["nullable"]);
+                    self.implied(&fields, |number| number == 0);
                 }
-                self.fields(name, fields, &["heap_type"]);
-            }
-            _ => self.in_order(name, fields),
-        }
-    }
-
-    fn variant(&mut self, name: &'static str, fields: Fields<'_>, node: Node<'_>, within: Within) {
-        match name {
-            "InstanceExport" => {
-                self.fields(name, fields, &["kind"]);
-                self.own(1, node);
-                self.fields(name, fields, &["instance", "name"]);
-            }
-            "CoreInstanceExport" => {
-                self.own(1, node);
-                self.fields(name, fields, &["kind"]);
-                self.own(1, node);
-                self.fields(name, fields, &["instance", "name"]);
-            }
-            "Outer" => {
-                self.own(if self.byte() == 0 { 3 } else { 2 }, node);
-                self.fields(name, fields, &["count", "index"]);
-            }
-            "Lift" => {
-                self.own(2, node);
-                self.fields(name, fields, &["core_func", "options", "ty"]);
-            }
-            // whether it is asynchronous is told by the first byte
-            "Func" if fields.iter().any(|(name, _)| name == "is_async") => {
-                self.own(1, node);
-                self.implied(fields, &["is_async"]);
-                self.fields(name, fields, &["params", "result"]);
-            }
-            _ => {
-                let len = match name {
-                    _ if within.0 == ITEM.0 => 0,
-                    "Lower" => 2,
-                    "Alias" => 3,
-                    _ => 1,
-                };
-                self.own(len, node);
-                self.in_order(name, fields);
+                self.field(&fields, 1);
             }
         }
     }
 
-    fn in_order(&mut self, owner: &'static str, fields: Fields<'_>) {
-        fields.iter().for_each(|(name, child)| self.child(name, child, Within(owner, name)));
+    /// Takes the field with this number.
+    fn field(&mut self, fields: &Named<'_>, number: usize) {
+        match fields.get(number) {
+            Some(Some((name, child))) => self.value(name, *child),
+            _ => self.is_wrong = true,
+        }
     }
-}
 
-/// Returns the number of bytes that tell a variant with one value.
-fn tag_of(name: &str, value: Node<'_>, within: Within) -> usize {
-    let is_index = matches!(value, Node::Index { .. } | Node::OutOfRange { .. });
-    match name {
-        _ if within.0 == ITEM.0 => 0,
-        "Defined" | "Group" | "Decl" | "Sub" | "Primitive" | "Val" | "Ref" | "Concrete"
-        | "Abstract" => 0,
-        // a value type is its index
-        "Type" if is_index => 0,
-        "Module" if is_index => 2,
-        _ => 1,
+    /// Takes the flags and words among some fields, which bytes of the value itself tell.
+    fn implied(&mut self, fields: &Named<'_>, is_implied: impl Fn(usize) -> bool) {
+        let wanted = fields.iter().enumerate().filter(|(at, _)| self.has_values && is_implied(*at));
+        for (field, child) in wanted.filter_map(|(_, field)| *field) {
+            let node = child.node();
+            if matches!(node, Node::Flag(_) | Node::Word(_)) {
+                (self.visit)(Encoded::Begin { field, offset: self.at, node });
+                (self.visit)(Encoded::End);
+            }
+        }
+    }
+
+    /// Takes a name, and its options if its first byte tells that it has some.
+    fn name(&mut self, value: Child<'_>, fields: &Named<'_>) {
+        let has_options = self.byte() == 2;
+        self.tag(1, value);
+        self.field(fields, 0);
+        if has_options {
+            let count = self.byte();
+            self.number(None, value.node());
+            for _ in 0..count {
+                let kind = usize::from(self.byte());
+                self.tag(1, value);
+                self.field(fields, kind + 1);
+            }
+        }
+    }
+
+    /// Takes a core type with its supertype, unless it is written as the type alone.
+    fn sub_type(&mut self, value: Child<'_>, fields: &Named<'_>) {
+        // apart from a group, one that isn't final would begin as a module type does
+        if self.byte() == 0 {
+            self.tag(1, value);
+        }
+        if matches!(self.byte(), 0x4f | 0x50) {
+            self.field(fields, 0);
+            self.number(None, value.node());
+            self.field(fields, 1);
+        } else {
+            self.implied(fields, |number| number == 0);
+        }
+        self.field(fields, 2);
     }
 }

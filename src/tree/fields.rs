@@ -10,9 +10,14 @@
 //! - `outer`: an index, where `in (count, space)` follows the fields: in that space of the scope
 //!   that is `count` further out;
 //! - `inner`: the declarations of a type that has index spaces of its own;
-//! - `group`: core types that may refer to each other.
+//! - `group`: core types that may refer to each other;
+//! - `named`: the one field of a variant that is a struct with this field in the owned type;
+//! - `option`: an option with a byte before it, `00` or `01`; `(option Types)`: of an index;
+//! - `result`: an option with `00` before it, and `01 00` if it is absent.
 //!
-//! The indices that a variant defines, if it is a declaration, follow `=>`.
+//! What is encoded follows in brackets: the number of bytes before the fields, if it isn't 1, or
+//! the parts in their order, each a number of bytes or a field; `Name` and others are named in
+//! [`Layout`]. The indices that a variant defines, if it is a declaration, follow `=>`.
 
 #[cfg(feature = "tree")]
 mod owned;
@@ -35,13 +40,13 @@ use super::{
     Space,
 };
 use crate::view::{
-    CaseView, ComponentDeclView, CoreCompositeView, CoreInstanceView, CoreSubView, CoreTypeView,
-    DefinedView, GroupView, InstanceDeclView, InstanceView, ItemView, ModuleDeclView, NameView,
-    TypeView,
+    CaseView, ComponentDeclView, CoreCompositeView, CoreInstanceView, CoreItemView, CoreSubView,
+    CoreTypeView, DefinedView, GroupView, InstanceDeclView, InstanceView, ItemView, ModuleDeclView,
+    NameView, TypeView,
 };
 use crate::{
     Alias, CanonicalOption, ComponentExportKind, ComponentOuterAliasKind, ComponentTypeRef,
-    ComponentValType, CoreItem, ExportKind, ModuleArg, PrimitiveValType, TypeBounds,
+    ComponentValType, ExportKind, ModuleArg, PrimitiveValType, TypeBounds,
 };
 use core::ops::ControlFlow;
 
@@ -52,8 +57,8 @@ use owned::{Muts, TreeMut};
 pub(super) use place::Place;
 pub use place::{IndexCounts, Scopes};
 pub(super) use shape::Named;
-use shape::{Kind, Role, Shape, Values, filled, role, shape};
-use values::leaves;
+use shape::{Kind, Role, Values, field, filled, layout, role, shape};
+pub(super) use shape::{Layout, Part, Shape, Tags};
 
 /// A function that takes the elements of a list, each with the bytes that it was read from, until
 /// it breaks.
@@ -76,6 +81,20 @@ pub(super) fn node_of<'n>(tree: &'n dyn Tree, place: Place<'n>) -> Node<'n> {
     match tree.shape(place, &mut values) {
         Some(shape) => shape.node(&mut values, tree, place),
         None => values.unshaped.unwrap_or(Node::Absent),
+    }
+}
+
+/// Returns the layout of the value at this place, with its fields and their own places; or its node,
+/// if it has no shape.
+#[inline(never)]
+pub(super) fn layout_of<'n>(
+    tree: &'n dyn Tree,
+    place: Place<'n>,
+) -> Result<(Layout, Named<'n>), Node<'n>> {
+    let mut values = Values::new();
+    match tree.shape(place, &mut values) {
+        Some(shape) => Ok((shape.layout, shape.named(&mut values, place))),
+        None => Err(values.unshaped.unwrap_or(Node::Absent)),
     }
 }
 
@@ -120,10 +139,10 @@ pub(super) fn group(len: impl TryInto<u32>) -> Option<(Space, u32)> {
 macro_rules! shapes {
     ({
         $($name:ident $(($one:ident $(: $of:tt)?))? $({ $($field:ident $(: $role:tt)?),+ })?
-            $(in $outer:tt)? $(=> $defined:expr)?),+ $(,)?
+            $([$($layout:tt)+])? $(in $outer:tt)? $(=> $defined:expr)?),+ $(,)?
     }) => {
         $(static $name: Shape = shape!(
-            $name $(($one $(: $of)?))? $({ $($field $(: $role)?),+ })?
+            $name $(($one $(: $of)?))? $({ $($field $(: $role)?),+ })? [$($($layout)+)?]
         );)+
     };
 }
@@ -140,7 +159,7 @@ macro_rules! defines {
 macro_rules! variant {
     ($way:ident $whole:ident $values:ident {
         $($name:ident $(($one:ident $(: $of:tt)?))? $({ $($field:ident $(: $role:tt)?),+ })?
-            $(in $outer:tt)? $(=> $defined:expr)?),+ $(,)?
+            $([$($layout:tt)+])? $(in $outer:tt)? $(=> $defined:expr)?),+ $(,)?
     }) => {
         match $whole {$(
             Self::$name $(($one))? $({ $($field),+ })? => {
@@ -236,8 +255,17 @@ macro_rules! enums {
 
 /// Implements `Tree` and `TreeMut` for enums without fields, and in tests `Random`.
 macro_rules! words {
-    ($($ty:ident { $($name:ident),+ $(,)? })+) => {$(
-        leaves! { $ty, word, _ => Node::Word(match word { $($ty::$name => stringify!($name)),+ }); }
+    ($($ty:ident { $($name:ident $([$len:literal])?),+ $(,)? })+) => {$(
+        impl Tree for $ty {
+            fn shape<'n>(&'n self, _: Place<'n>, _: &mut Refs<'n>) -> Option<&'static Shape> {
+                Some(match self {$(
+                    $ty::$name => {
+                        static WORD: Shape = shape!($name [$($len)?]);
+                        &WORD
+                    }
+                )+})
+            }
+        }
         #[cfg(feature = "tree")]
         impl TreeMut for $ty {}
         #[cfg(all(test, feature = "tree"))]
@@ -249,16 +277,16 @@ macro_rules! words {
 /// one.
 macro_rules! structs {
     () => {};
-    ($name:ident: $view:ident $fields:tt $($rest:tt)*) => {
+    ($name:ident: $view:ident $fields:tt $layout:tt $($rest:tt)*) => {
         const _: () = {
-            static SHAPE: Shape = shape!(Record $name $fields);
+            static SHAPE: Shape = shape!(Record $name $fields $layout);
             tree_by! { record $fields [] $view<'_> }
         };
         structs! { $($rest)* }
     };
-    ($tree:ident = $view:ident $fields:tt $($rest:tt)*) => {
+    ($tree:ident = $view:ident $fields:tt $layout:tt $($rest:tt)*) => {
         const _: () = {
-            static SHAPE: Shape = shape!(Record $tree $fields);
+            static SHAPE: Shape = shape!(Record $tree $fields $layout);
             tree_by! { record $fields [] $view<'_> }
             #[cfg(feature = "tree")]
             tree_mut_by! { record $fields [] $tree }
@@ -267,9 +295,9 @@ macro_rules! structs {
         random::random_struct! { $tree, $fields }
         structs! { $($rest)* }
     };
-    ($ty:ident $fields:tt $($rest:tt)*) => {
+    ($ty:ident $fields:tt $layout:tt $($rest:tt)*) => {
         const _: () = {
-            static SHAPE: Shape = shape!(Record $ty $fields);
+            static SHAPE: Shape = shape!(Record $ty $fields $layout);
             tree_by! { record $fields [] $ty }
             #[cfg(feature = "tree")]
             tree_mut_by! { record $fields [] $ty }
@@ -281,15 +309,15 @@ macro_rules! structs {
 }
 
 structs! {
-    CaseTree = CaseView { name, ty }
-    CoreFieldType { element_type, mutable }
-    CoreGlobalType { val_type, mutable }
-    CoreMemoryType { minimum, maximum, memory64, shared }
-    CoreRefType { nullable, heap_type }
-    CoreSubType = CoreSubView { is_final, supertype_idx: CoreTypes, composite_type }
-    CoreTableType { element_type, table64, minimum, maximum }
-    CoreTagType { func_type_idx: CoreTypes }
-    NameTree: NameView { name, implements, version_suffix, external_id }
+    CaseTree = CaseView { name, ty: option } [name ty 1]
+    CoreFieldType { element_type, mutable } [0]
+    CoreGlobalType { val_type, mutable } [0]
+    CoreMemoryType { minimum, maximum, memory64, shared } [1 minimum maximum]
+    CoreRefType { nullable, heap_type } [RefType]
+    CoreSubType = CoreSubView { is_final, supertype_idx: CoreTypes, composite_type } [SubType]
+    CoreTableType { element_type, table64, minimum, maximum } [element_type 1 minimum maximum]
+    CoreTagType { func_type_idx: CoreTypes } [1]
+    NameTree: NameView { name, implements, version_suffix, external_id } [Name]
 }
 
 // Borrowed, it has fields of its own.
@@ -299,20 +327,20 @@ enums! {
 }
 
 enums! {
-    CoreCompositeView<'_> { Func { params, results }, Array(ty), Struct(fields) }
+    CoreCompositeView<'_> { Func { params, results }, Array(ty), Struct(fields: named) }
 }
 
 enums! {
-    CoreItem<'_> {
-        Import { module, name, ty },
-        Export { name, kind, index: outer } in (0, (*kind).into()),
-        Start { function: CoreFuncs },
+    CoreItemView<'_> {
+        Import { module, name, ty } [0],
+        Export { name, kind, index: outer } [0] in (0, (*kind).into()),
+        Start { function: CoreFuncs } [0],
     }
 }
 
 words! {
-    ComponentExportKind { Module, Func, Value, Type, Instance, Component }
-    ComponentOuterAliasKind { CoreModule, CoreType, Type, Component }
+    ComponentExportKind { Module [2], Func, Value, Type, Instance, Component }
+    ComponentOuterAliasKind { CoreModule [2], CoreType [2], Type, Component }
     CoreAbstractHeapType {
         Func, Extern, Any, None, NoExtern, NoFunc, Eq, Struct, Array, I31, Exn, NoExn
     }
@@ -324,9 +352,11 @@ words! {
 
 enums! {
     AliasTree = Alias {
-        InstanceExport { instance: Instances, kind, name } => one(*kind),
-        CoreInstanceExport { instance: CoreInstances, kind, name } => one(*kind),
-        Outer { kind, count, index: outer } in (*count, (*kind).into()) => one(*kind),
+        InstanceExport { instance: Instances, kind, name } [kind 1 instance name] => one(*kind),
+        CoreInstanceExport { instance: CoreInstances, kind, name } [1 kind 1 instance name]
+            => one(*kind),
+        Outer { kind, count, index: outer } [kind 1 count index] in (*count, (*kind).into())
+            => one(*kind),
     }
 
     CanonicalOption {
@@ -337,13 +367,16 @@ enums! {
 
     ComponentDecl = ComponentDeclView {
         Import { name, ty } => one(ty.kind()),
-        Decl(declared) => defined(declared),
-    }    ComponentTypeRef {
-        Module(index: CoreTypes), Func(index: Types), Value(ty), Type(bounds),
+        Decl(declared) [0] => defined(declared),
+    }
+
+    ComponentTypeRef {
+        Module(index: CoreTypes) [2], Func(index: Types), Value(ty), Type(bounds),
         Instance(index: Types), Component(index: Types),
     }
 
-    ComponentValType { Primitive(ty), Type(index: Types) }
+    ComponentValType { Primitive(ty) [0], Type(index: Types) [0] }
+
     CoreEntityType {
         Function(index: CoreTypes) => one(Space::CoreFuncs),
         Table(ty) => one(Space::CoreTables),
@@ -352,29 +385,30 @@ enums! {
         Tag(ty) => one(Space::CoreTags),
     }
 
-    CoreHeapType { Abstract(ty), Concrete(index: CoreTypes) }
+    CoreHeapType { Abstract(ty) [0], Concrete(index: CoreTypes) [0] }
 
     CoreInstanceTree = CoreInstanceView {
         Instantiate { module: CoreModules, args }, Exports(exports),
     }
 
-    CoreStorageType { I8, I16, Val(ty) }
+    CoreStorageType { I8, I16, Val(ty) [0] }
 
     CoreTypeTree = CoreTypeView {
-        Group(ty: group) => defined(ty),
+        Group(ty: group) [0] => defined(ty),
         Module(declared: inner) => one(Space::CoreTypes),
     }
 
-    CoreValType { I32, I64, F32, F64, V128, Ref(ty) }
+    CoreValType { I32, I64, F32, F64, V128, Ref(ty) [0] }
 
     DefinedTree = DefinedView {
-        Primitive(ty), Record(fields), Variant(cases), Tuple(elements), Flags(names), Enum(names),
+        Primitive(ty) [0], Record(fields), Variant(cases), Tuple(elements), Flags(names), Enum(names),
         List(element), FixedLengthList { element, length }, Map { key, value },
-        Option(ty), Result { ok, err },
-        Own(index: Types), Borrow(index: Types), Future(ty), Stream(ty),
+        Option(ty), Result { ok: option, err: option },
+        Own(index: Types), Borrow(index: Types), Future(ty: option), Stream(ty: option),
     }
+
     GroupTree = GroupView {
-        Sub(ty) => one(Space::CoreTypes),
+        Sub(ty) [0] => one(Space::CoreTypes),
         Rec(types) => group(types.len()),
     }
 
@@ -390,12 +424,12 @@ enums! {
     }
 
     ItemTree = ItemView {
-        Module(bytes), CoreInstance(instance), CoreType(ty), Component(bytes),
-        Instance(instance), Alias(alias), Type(ty), Canon(canon),
-        Start { function: Funcs, args: Values, results },
-        Import { name, ty },
-        Export { name, kind, index: outer, ty } in (0, (*kind).into()),
-        Custom { name, data },
+        Module(bytes) [0], CoreInstance(instance) [0], CoreType(ty) [0], Component(bytes) [0],
+        Instance(instance) [0], Alias(alias) [0], Type(ty) [0], Canon(canon) [0],
+        Start { function: Funcs, args: Values, results } [0],
+        Import { name, ty } [0],
+        Export { name, kind, index: outer, ty: option } [0] in (0, (*kind).into()),
+        Custom { name, data } [0],
     }
 
     ModuleArg { Instance(index: CoreInstances) }
@@ -403,24 +437,25 @@ enums! {
     ModuleDecl = ModuleDeclView {
         Import { module, name, ty } => defined(ty),
         Type(ty: group) => defined(ty),
-        Alias { count, index: outer } in (*count, Space::CoreTypes) => one(Space::CoreTypes),
+        Alias { count, index: outer } [3] in (*count, Space::CoreTypes) => one(Space::CoreTypes),
         Export { name, ty },
     }
+
     TypeBounds { Eq(index: Types), SubResource }
 
     TypeTree = TypeView {
-        Defined(ty),
-        Func { is_async, params, result },
+        Defined(ty) [0],
+        Func { is_async, params, result: result } [1 params result],
         Component(declared: inner),
         Instance(declared: inner),
-        Resource { rep, dtor: CoreFuncs },
+        Resource { rep, dtor: (option CoreFuncs) },
     }
 
     CanonTree = CanonOf<O> {
-        Lift { core_func: CoreFuncs, ty: (last Types), options },
-        Lower { func: Funcs, options },
+        Lift { core_func: CoreFuncs, ty: (last Types), options } [2 core_func options ty],
+        Lower { func: Funcs, options } [2],
         ResourceNew(index: Types), ResourceDrop(index: Types), ResourceRep(index: Types),
-        TaskCancel, TaskReturn { ty, options },
+        TaskCancel, TaskReturn { ty: result, options },
         SubtaskCancel(is_async), SubtaskDrop,
         ContextGet { ty, slot }, ContextSet { ty, slot },
         StreamNew(index: Types), StreamForward(index: Types),
@@ -433,11 +468,12 @@ enums! {
         FutureDropReadable(index: Types), FutureDropWritable(index: Types),
         ErrorContextNew(options), ErrorContextDebugMessage(options), ErrorContextDrop,
         WaitableSetNew, WaitableSetDrop, WaitableJoin,
-        WaitableSetWait(index: CoreMemories), WaitableSetPoll(index: CoreMemories),
+        WaitableSetWait(index: CoreMemories) [2], WaitableSetPoll(index: CoreMemories) [2],
         BackpressureInc, BackpressureDec,
-        ThreadIndex, ThreadYield, ThreadSuspend, ThreadResumeLater, ThreadAvailableParallelism,
-        ThreadSuspendThenResume, ThreadYieldThenResume,
-        ThreadSuspendThenPromote, ThreadYieldThenPromote,
+        ThreadIndex, ThreadYield [2], ThreadSuspend [2], ThreadResumeLater,
+        ThreadAvailableParallelism,
+        ThreadSuspendThenResume [2], ThreadYieldThenResume [2],
+        ThreadSuspendThenPromote [2], ThreadYieldThenPromote [2],
         ThreadNewIndirect { ty: CoreTypes, table: CoreTables },
         ThreadSpawnRef(index: CoreTypes),
         ThreadSpawnIndirect { ty: CoreTypes, table: CoreTables },

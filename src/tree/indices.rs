@@ -34,8 +34,8 @@ impl ItemView<'_> {
     /// Returns the index space in which the item defines indices, and their number (component
     /// model, explainer, "Index Spaces"); `None` for a custom section.
     ///
-    /// A recursion group defines an index for each of its types. [`indices`](Self::indices) counts
-    /// one for the group, as upstream's builder does.
+    /// A recursion group defines an index for each of its types, of which a
+    /// [`ComponentBuilder`](crate::ComponentBuilder) counts the first alone, as upstream's does.
     ///
     /// ```
     /// use wenc::tree::Space;
@@ -45,7 +45,6 @@ impl ItemView<'_> {
     /// let component = b"\0asm\x0d\0\x01\0\x03\x08\x01\x4e\x02\x60\0\0\x5f\0";
     /// let group = Sections::new(component)?.items().next().expect("an item")?.view;
     /// assert_eq!(group.defined_indices(), Some((Space::CoreTypes, 2)));
-    /// assert_eq!(group.indices(), Some((Space::CoreTypes, 1)));
     /// # Ok::<(), ReadError>(())
     /// ```
     pub fn defined_indices(&self) -> Option<(Space, u32)> {

@@ -1,12 +1,14 @@
 //! Items as nodes with named fields.
 
-use super::fields::{Elements, IndexCounts, Place, Scopes, Tree, defined, fields_of, node_of};
+use super::fields::{
+    Elements, IndexCounts, Layout, Named, Place, Scopes, Tags, Tree, defined, fields_of, layout_of,
+    node_of,
+};
 use super::{Scope, Space};
-use crate::CoreItem;
 use crate::view::{
-    CanonView, CaseView, ComponentDeclView, CoreCompositeView, CoreInstanceView, CoreSubView,
-    CoreTypeView, DefinedView, GroupView, InstanceDeclView, InstanceView, ItemView, ModuleDeclView,
-    NameView, TypeView,
+    CanonView, CaseView, ComponentDeclView, CoreCompositeView, CoreInstanceView, CoreItemView,
+    CoreSubView, CoreTypeView, DefinedView, GroupView, InstanceDeclView, InstanceView, ItemView,
+    ModuleDeclView, NameView, TypeView,
 };
 use core::fmt;
 use core::iter::FusedIterator;
@@ -15,7 +17,7 @@ use core::ops::ControlFlow;
 /// An item, or a value within one, by its kind and its fields, from which programs can print it
 /// without a case for each type.
 ///
-/// [`ItemView::node`] and [`CoreItem::node`] return an item's node, [`Child::node`] that of a value
+/// [`ItemView::node`] and [`CoreItemView::node`] return an item's node, [`Child::node`] that of a value
 /// within. Names are those of the owned Rust types; the elements of lists are read one by one.
 /// Nothing is allocated.
 /// Types in items that were read are at most 100 deep.
@@ -97,7 +99,7 @@ pub enum Node<'a> {
 }
 
 /// An index that an item contains, as [`Node::each_index`] visits it.
-#[derive(Clone, Copy, Debug, PartialEq, Eq)]
+#[derive(Clone, Copy, Debug, PartialEq, Eq, Hash)]
 pub struct UsedIndex {
     /// The index space that the index is in.
     pub space: Space,
@@ -197,6 +199,16 @@ impl<'a> Child<'a> {
     /// Returns the node of this value.
     pub fn node(self) -> Node<'a> {
         node_of(self.tree, self.place)
+    }
+
+    /// Returns the layout of this value and its fields, or its node if it has no fields.
+    pub(super) fn layout(self) -> Result<(Layout, Named<'a>), Node<'a>> {
+        layout_of(self.tree, self.place)
+    }
+
+    /// Returns the bytes before this value, if it is an option.
+    pub(super) fn tags(self) -> Tags {
+        self.place.tags
     }
 
     /// Returns the bytes that this element of a borrowed list was read from; `None` for other
@@ -386,15 +398,15 @@ impl ItemView<'_> {
     }
 }
 
-impl CoreItem<'_> {
+impl CoreItemView<'_> {
     /// Returns the item as a [`Node`]: the variant of this type that it is. Its indices are those
     /// of the core module: their scope is [`Scope::Component`] 0.
     ///
     /// ```
-    /// use wenc::CoreItem;
     /// use wenc::tree::{Node, Scope, Space};
+    /// use wenc::view::CoreItemView;
     ///
-    /// let start = CoreItem::Start { function: 3 };
+    /// let start = CoreItemView::Start { function: 3 };
     /// let Node::Struct("Start", fields) = start.node() else { panic!("it is a start") };
     /// let Some(("function", child)) = fields.iter().next() else { panic!("it has a function") };
     /// let (space, scope) = (Space::CoreFuncs, Scope::Component(0));

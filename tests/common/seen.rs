@@ -7,7 +7,7 @@ use wenc::{ComponentExternName, Listing, Sections};
 /// Whether the borrowed item equals the owned one: both define the same indices, and a copy of the
 /// one is the other.
 pub fn is_same(view: ItemView<'_>, tree: &ItemTree) -> bool {
-    view.indices() == tree.indices() && view.to_tree() == *tree
+    view.defined_indices() == tree.defined_indices() && view.to_tree() == *tree
 }
 
 /// Whether the names are the same.

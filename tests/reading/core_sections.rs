@@ -2,7 +2,8 @@
 
 use std::ops::Range;
 use wenc::tree::{CoreEntityType, CoreMemoryType};
-use wenc::{Cause, CoreItem, CoreSection, CoreSections, ExportKind, Part, ReadError, SectionId};
+use wenc::view::CoreItemView;
+use wenc::{Cause, CoreSection, CoreSections, ExportKind, Part, ReadError, SectionId};
 
 fn all(module: &[u8]) -> Vec<Result<CoreSection<'_>, ReadError>> {
     CoreSections::new(module).expect("it has a header").collect()
@@ -68,20 +69,21 @@ fn faults_have_their_places() {
 }
 
 /// The items of a section, with their byte offsets.
-type Read = Vec<Result<(Range<usize>, CoreItem<'static>), ReadError>>;
+type Read = Vec<Result<(Range<usize>, CoreItemView<'static>), ReadError>>;
 
 /// The items of the only section of a module, after that section's count.
 fn items(section: &[u8]) -> (Option<u32>, Read) {
     let module = [b"\0asm\x01\0\0\0", section].concat().leak();
     let section = CoreSections::new(module).expect("a header").next().expect("a section");
     let section = section.expect("it is framed");
-    (section.count(), section.items().collect())
+    let items = section.items().map(|item| item.map(|item| (item.range, item.view)));
+    (section.count(), items.collect())
 }
 
 #[test]
 fn items_have_their_places() {
     let memory = CoreMemoryType { minimum: 1, maximum: None, memory64: false, shared: false };
-    let import = |module, name, ty| CoreItem::Import { module, name, ty };
+    let import = |module, name, ty| CoreItemView::Import { module, name, ty };
     assert_eq!(
         items(b"\x02\x0f\x02\x03env\x01f\0\x05\0\x01m\x02\0\x01"),
         (
@@ -92,9 +94,9 @@ fn items_have_their_places() {
             ],
         ),
     );
-    let export = CoreItem::Export { name: "g", kind: ExportKind::Global, index: 128 };
+    let export = CoreItemView::Export { name: "g", kind: ExportKind::Global, index: 128 };
     assert_eq!(items(b"\x07\x06\x01\x01g\x03\x80\x01"), (Some(1), vec![Ok((11..16, export))]),);
-    let start = CoreItem::Start { function: 7 };
+    let start = CoreItemView::Start { function: 7 };
     assert_eq!(items(b"\x08\x01\x07"), (Some(1), vec![Ok((10..11, start))]));
 }
 

@@ -3,11 +3,6 @@
 use crate::component;
 use wenc::scope::Definitions;
 use wenc::tree::Space;
-use wenc::{Listing, list};
-
-fn listed(sections: &[u8]) -> Listing {
-    list(&component(sections)).expect("it is listed")
-}
 
 /// The number of the item that defines an index.
 fn item_of(sections: &[u8], space: Space, index: u32) -> Option<usize> {
@@ -23,13 +18,11 @@ fn each_index_has_its_definition() {
     // a function, no value, three values, another function, one value
     let bytes = b"\x0a\x05\x01\x00\x00\x01\x07\x09\x03\x01\x00\x00\x09\x03\x02\x00\x03\
         \x0a\x05\x01\x00\x00\x01\x08\x09\x03\x03\x00\x01";
-    let listing = listed(bytes);
     let found = |space, index| item_of(bytes, space, index);
     assert_eq!([0, 1].map(|index| found(Space::Funcs, index)), [Some(0), Some(3)]);
     let of_values = [Some(2), Some(2), Some(2), Some(4), None];
     assert_eq!([0, 1, 2, 3, 4].map(|index| found(Space::Values, index)), of_values);
     assert_eq!((found(Space::Funcs, 2), found(Space::Types, 0)), (None, None));
-    assert_eq!(listing.counts[Space::Values.number()], 4);
 
     let many = b"\x09\x07\x00\x00\xff\xff\xff\xff\x0f\x09\x03\x01\x00\x02";
     let found = |index| item_of(many, Space::Values, index);

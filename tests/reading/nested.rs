@@ -1,6 +1,7 @@
 //! A walk through nested components, step by step.
 
 use crate::{component, nested};
+use wenc::tree::Space;
 use wenc::{Cause, Found, Part, Step, Walk};
 
 /// What a step is, its depth and its byte offsets, or why it isn't read.
@@ -106,4 +107,57 @@ fn a_walk_goes_elsewhere() {
     assert!(begins(walk.next(), 21));
     walk.go_to(8);
     assert!(begins(walk.next(), 8));
+}
+
+/// The spaces in which the walk knows how many indices the component has at its end.
+fn known(sections: &[u8], limit: usize) -> Vec<(Space, u64)> {
+    let bytes = component(sections);
+    let mut walk = Walk::new(&bytes, limit).and_then(Walk::counted).expect("it is a component");
+    assert!(walk.any(|step| matches!(step, Step::Unread(_))), "{sections:x?}");
+    while walk.next().is_some() {}
+    let count = |space| Some((space, walk.counts().of(space)?));
+    Space::ALL.into_iter().filter_map(count).collect()
+}
+
+/// After what isn't read, the number of indices is known in the spaces in which it can't define any.
+#[test]
+fn what_is_unread_may_define_indices() {
+    // the type `u32`, in front and behind
+    let ty = b"\x07\x02\x01\x79";
+    let known = |unread: &[u8]| known(&[ty, unread, ty].concat(), 1);
+    let all_but = |spaces: &[Space]| {
+        let known = Space::ALL.into_iter().filter(|space| !spaces.contains(space));
+        known.map(|space| (space, if space == Space::Types { 2 } else { 0 })).collect::<Vec<_>>()
+    };
+    // functions that can't be read, bytes behind them, and no number of them
+    let functions = all_but(&[Space::CoreFuncs, Space::Funcs]);
+    for unread in [&b"\x08\x02\x01\xff"[..], b"\x08\x03\x01\x05\x05", b"\x08\x01\x80"] {
+        assert_eq!(known(unread), functions, "{unread:x?}");
+    }
+    assert_eq!(known(b"\x07\x02\x01\x07"), all_but(&[Space::Types]));
+    assert_eq!(known(b"\x07\x02\0\x79"), all_but(&[Space::Types]));
+    assert_eq!(known(b"\x09\x04\0\0\0\x79"), all_but(&[Space::Values]));
+    let imported = [
+        Space::CoreModules,
+        Space::Funcs,
+        Space::Instances,
+        Space::Values,
+        Space::Components,
+        Space::Types,
+    ];
+    assert_eq!(known(b"\x0a\x02\0\0"), all_but(&imported));
+    // a custom section without a name, and a section that isn't known
+    assert_eq!(known(b"\0\x01\x05"), all_but(&[]));
+    assert_eq!(known(b"\x0c\0"), []);
+    // a nested component with one of these
+    let mut one = all_but(&[]);
+    one.iter_mut().filter(|(space, _)| *space == Space::Components).for_each(|of| of.1 = 1);
+    for unread in [&b"\x07\x02\x01\x07"[..], b"\x07\x02\0\x79", b"\x0c\0"] {
+        assert_eq!(known(&nested(unread)), one, "{unread:x?}");
+    }
+    // one that is too deep, and one without a header
+    assert_eq!(known(&nested(&nested(ty))), one);
+    assert_eq!(known(b"\x04\x01\0"), one);
+    // a section exceeds the nested component: that may end behind the next type
+    assert_eq!(known(&nested(b"\x07\x03\x01")), []);
 }

@@ -2,7 +2,8 @@
 
 use crate::component;
 use wenc::tree::{CoreFuncType, CoreValType, Node};
-use wenc::{CoreItem, CoreSections, ExportKind, Sections};
+use wenc::view::CoreItemView;
+use wenc::{CoreSections, ExportKind, Sections};
 
 /// What is printed of a node, in single quotes.
 fn shown(node: Node) -> String {
@@ -83,8 +84,8 @@ fn items_of_core_modules() {
     let sections = CoreSections::new(module).expect("it is a core module");
     let sections: Vec<_> = sections.map(|section| section.expect("it is read")).collect();
     let items = sections.iter().flat_map(|section| section.items());
-    let items: Vec<CoreItem> = items.map(|item| item.expect("it is read").1).collect();
-    assert!(matches!(items[1], CoreItem::Export { kind: ExportKind::Global, index: 4, .. }));
+    let items: Vec<_> = items.map(|item| item.expect("it is read").view).collect();
+    assert!(matches!(items[1], CoreItemView::Export { kind: ExportKind::Global, index: 4, .. }));
     let nodes: Vec<String> = items.iter().map(|item| shown(item.node())).collect();
     assert_eq!(
         nodes,

@@ -217,9 +217,9 @@ fn unknown_counts() {
     };
     assert!(is_marked(&counts, &item));
     assert!(is_marked(&[], &item), "there is no component");
-    assert!(!counts[0].are_unknown());
+    assert_eq!(counts[0].of(Space::Types), Some(0));
     counts[0].add_unknown();
-    assert!(counts[0].are_unknown() && !is_marked(&counts, &item));
+    assert!(!is_marked(&counts, &item));
     counts[0].add(&item);
-    assert_eq!(counts[0].of(Space::Types), u64::MAX);
+    assert_eq!(Space::ALL.map(|space| counts[0].of(space)), [None; 13]);
 }

@@ -3,7 +3,7 @@
 use crate::corpus;
 use crate::seen::{are_items, is_same};
 use wenc::scope::{Definitions, Meaning};
-use wenc::tree::{ItemTree, Space};
+use wenc::tree::{IndexCounts, ItemTree, Space};
 use wenc::view::ItemView;
 use wenc::*;
 use wenc_calls::encoded::encoded;
@@ -50,14 +50,13 @@ fn items_of(listing: &Listing) -> impl Iterator<Item = &ItemTree> {
     listing.sections.iter().flat_map(|section| &section.items)
 }
 
-/// A walk counts the indices, for upstream's counts one more for each further type of a group.
+/// A walk counts the indices that the listed items define.
 fn are_counted(bytes: &[u8], listing: &Listing) {
     let mut walk = Walk::new(bytes, 100).and_then(Walk::counted).expect("a component");
     while walk.next().is_some() {}
-    for space in Space::ALL {
-        let count = u128::from(walk.counts().of(space));
-        assert_eq!(count, listing.counts[space.number()], "{space}");
-    }
+    let mut counts = IndexCounts::default();
+    items_of(listing).for_each(|item| counts.define(item.defined_indices()));
+    assert_eq!(*walk.counts(), counts);
 }
 
 /// Each item defines the indices from the count of those before it on.
@@ -68,14 +67,13 @@ fn are_defined(bytes: &[u8], listing: &Listing) {
     for (item, of) in items_of(listing).zip(definitions.component().definitions()) {
         let Meaning::Item(view) = of.meaning() else { panic!("{item:?}") };
         assert!(is_same(view, item), "{item:?}");
-        let Some((space, count)) = item.indices() else { continue };
+        let Some((space, count)) = item.defined_indices() else { continue };
         let index = &mut next[space.number()];
         assert_eq!(definitions.component().get(space, *index), Ok(of), "{space:?} {index}");
         *index += count;
     }
     for space in Space::ALL {
         let index = next[space.number()];
-        assert_eq!(listing.counts[space.number()], index.into());
         assert_eq!(definitions.component().count(space), Some(index.into()));
         assert!(definitions.component().get(space, index).is_err());
     }

@@ -18,7 +18,7 @@ fn section(item: &ItemTree) -> Option<&[u8]> {
 fn written(listing: &Listing, names: &DebugNames) -> ItemTree {
     let (mut builder, mut next) = (ComponentBuilder::default(), [0; 13]);
     for item in listing.sections.iter().flat_map(|of| &of.items) {
-        let name = item.indices().and_then(|(space, count)| {
+        let name = item.defined_indices().and_then(|(space, count)| {
             let next: &mut u32 = &mut next[space.number()];
             *next += count;
             names.get(space, *next - count)

@@ -181,7 +181,7 @@ fn spaces_of_unread_items() {
     let unknown = ComponentSectionId::ALL.into_iter().flat_map(|id| {
         let mut counts = IndexCounts::default();
         counts.add_unread(id);
-        let is_unknown = move |space: &Space| counts.of(*space) == u64::MAX;
+        let is_unknown = move |space: &Space| counts.of(*space).is_none();
         Space::ALL.into_iter().filter(is_unknown).map(move |space| (id.into(), space))
     });
     assert_eq!(seen, unknown.collect());

@@ -184,7 +184,11 @@ fn of_each_space() -> Vec<u8> {
 fn is_moved(name: &str, bytes: &[u8], front: &Listing, linker: Option<&Linker>) -> usize {
     let encoded =
         |items: &[ItemTree]| built(&items.iter().cloned().map(Command::from).collect::<Vec<_>>());
-    let by = front.counts.map(|count| u32::try_from(count).expect("they are few"));
+    let mut by = [0; 13];
+    for item in front.sections.iter().flat_map(|of| &of.items) {
+        let (space, count) = item.defined_indices().expect("it defines some");
+        by[space.number()] += count;
+    }
     let mut all: Vec<ItemTree> =
         list(bytes).expect(name).sections.into_iter().flat_map(|of| of.items).collect();
     let mut indices = 0;

@@ -9,8 +9,8 @@
 
 mod debug_names;
 mod definitions;
-mod encoded;
 mod docs;
+mod encoded;
 mod examples;
 mod features;
 mod indices;

@@ -2,6 +2,7 @@
 
 use super::is_listed;
 use super::runs::{LISTED, SCRIPTS, UNLISTED, hex};
+use wenc::tree::{IndexCounts, Space};
 use wenc::*;
 
 /// What the program prints.
@@ -20,7 +21,11 @@ fn printed(bytes: &[u8]) -> String {
     };
     let line = |section: &ListedSection| format!("{} {}\n", section.id, section.items.len());
     let lines: String = listing.sections.iter().map(line).collect();
-    format!("{lines}{}\n", listing.counts.map(|count| count.to_string()).join(" "))
+    let mut counts = IndexCounts::default();
+    let items = listing.sections.iter().flat_map(|section| &section.items);
+    items.for_each(|item| counts.define(item.defined_indices()));
+    let counts = Space::ALL.map(|space| counts.of(space).expect("all is read").to_string());
+    format!("{lines}{}\n", counts.join(" "))
 }
 
 #[test]

@@ -2,14 +2,13 @@
 
 use super::fault::Fault;
 use super::leaf::expected;
-use super::report::{Part, Report, Rest};
+use super::report::{Part, Report, Rest, Source};
 use super::text::Text;
 use super::words::Counted;
 use std::ffi::OsStr;
 use std::io;
 use std::mem;
 use std::ops::Range;
-use wenc::Item;
 use wenc::tree::{Encoded, Node, UsedIndex};
 
 /// A report of the parts around a byte, and of what it is.
@@ -45,9 +44,9 @@ fn words(node: Node) -> String {
 
 /// Returns the byte offsets of the value of an item that has this byte, and its words after the
 /// names of the fields around it.
-fn leaf(item: &Item, file: &[u8], offset: usize) -> Option<(Range<usize>, String)> {
+fn leaf(item: Source, file: &[u8], offset: usize) -> Option<(Range<usize>, String)> {
     let (mut open, mut found) = (Vec::<(String, String, Option<usize>)>::new(), None);
-    item.each_encoded_part(file, |step| match step {
+    item.each_part(file, &mut |step| match step {
         Encoded::Begin { field, node, .. } => {
             // elements have numbers
             let number = open.last_mut().and_then(|(_, _, next)| next.as_mut());
@@ -55,12 +54,12 @@ fn leaf(item: &Item, file: &[u8], offset: usize) -> Option<(Range<usize>, String
             let next = matches!(node, Node::List(_)).then_some(0_usize);
             open.push((name.unwrap_or_else(|| field.to_owned()), words(node), next));
         }
-        Encoded::Bytes(start, end) if (start..end).contains(&offset) => {
+        Encoded::Bytes(range, _) if range.contains(&offset) => {
             let names = open.iter().skip(1).map(|(name, ..)| &**name);
             let names: Vec<&str> = names.filter(|name| !name.is_empty()).collect();
             let words = open.last().map_or("", |(_, words, _)| words);
             let lead = if names.is_empty() { "" } else { ": " };
-            found = Some((start..end, format!("{}{lead}{words}", names.join(", "))));
+            found = Some((range, format!("{}{lead}{words}", names.join(", "))));
         }
         Encoded::End => {
             open.pop();
@@ -92,14 +91,18 @@ impl<'t, 'f> At<'t, 'f> {
                 (range.clone(), Some(what))
             }
             Part::Item { range, item, .. } if range.contains(&offset) => {
-                let leaf = item.and_then(|item| leaf(item, self.file, offset));
+                let leaf = leaf(*item, self.file, offset);
                 let what = leaf.map(|(range, what)| {
                     let bytes = if range.len() == 1 { "" } else { &*format!("{range:#x?} ") };
                     format!("{bytes}{what}")
                 });
-                let mut copy = self.file[range.clone()].to_vec();
-                let other = expected(self.id, &mut copy, offset - range.start);
-                let other = other.filter(|_| what.is_some());
+                let other = match item {
+                    Source::Component(_) if what.is_some() => {
+                        let mut copy = self.file[range.clone()].to_vec();
+                        expected(self.id, &mut copy, offset - range.start)
+                    }
+                    _ => None,
+                };
                 let other =
                     other.map_or(String::new(), |other| format!(", where {other} is expected"));
                 (range.clone(), what.map(|what| what + &other))

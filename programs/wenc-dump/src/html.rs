@@ -6,14 +6,13 @@ use super::buffer::Buffer;
 use super::check::OutOfRange;
 use super::fault::Fault;
 use super::json::Quoted;
-use super::report::{Content, Contents, Entry, Label, Part, Report, Rest};
+use super::report::{Content, Contents, Entry, Label, Part, Report, Rest, Source};
 use std::ffi::OsStr;
 use std::fmt::{self, Display, Write as _};
 use std::hash::{DefaultHasher, Hasher};
 use std::io::{self, Write};
 use std::ops::Range;
 use values::Values;
-use wenc::Item;
 use wenc::scope::{Definition, Instances};
 use wenc::tree::UsedIndex;
 
@@ -287,13 +286,14 @@ impl<'d, 'f, 't> Data<'d, 'f, 't> {
 
     /// Writes the values of an item, and the byte offsets of what it is the same as, of the last of
     /// these, of its type, and of the import that it comes from.
-    fn item(&mut self, item: &Item) -> fmt::Result {
-        let id = self.open.iter().rev().find_map(|open| open.id).unwrap_or(0);
-        let (shape, values) = self.values.item(id, item)?;
+    fn item(&mut self, range: &Range<usize>, item: Source) -> fmt::Result {
+        // the item itself is open, within its section
+        let id = self.open.iter().rev().nth(1).and_then(|open| open.id);
+        let (shape, values) = self.values.item(id, range, item)?;
         write!(self.rows, ",{shape},[{}]", values.strip_prefix(',').unwrap_or(""))?;
-        let Some(of) = self.values.definitions.get(&item.range.start) else { return Ok(()) };
+        let Some(of) = self.values.definitions.get(&range.start) else { return Ok(()) };
         let place = |found: Option<Definition>| {
-            found.map(Definition::place).filter(|place| *place != item.range.start).unwrap_or(0)
+            found.map(Definition::place).filter(|place| *place != range.start).unwrap_or(0)
         };
         let same = place(of.target().ok().flatten());
         let last = place(of.resolve().ok());
@@ -325,10 +325,11 @@ impl<'d, 'f, 't> Data<'d, 'f, 't> {
                 write!(self.rows, ",{word},{id},{count},{is_core}")?;
                 self.text(core.as_ref().and_then(|core| core.name))?;
                 self.field(content - range.start)?;
+                if let Some(open) = self.open.last_mut() {
+                    open.id = Some(*id).filter(|_| core.is_none());
+                }
                 if let Some(core) = core {
                     self.cut(range.end - core.bytes.len()..range.end)?;
-                } else if let Some(open) = self.open.last_mut() {
-                    open.id = Some(*id);
                 }
             }
             Part::Item { range, content: Content::Custom(name, size, contents), .. } => {
@@ -346,9 +347,8 @@ impl<'d, 'f, 't> Data<'d, 'f, 't> {
                 };
                 self.row(range, kind)?;
                 self.label(label.as_ref(), range.start)?;
-                match (kind, item) {
-                    (Kind::Item, Some(item)) => self.item(item)?,
-                    (Kind::Item, None) => {}
+                match kind {
+                    Kind::Item => self.item(range, *item)?,
                     _ => self.text(name)?,
                 }
             }

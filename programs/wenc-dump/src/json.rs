@@ -9,7 +9,7 @@ use std::io::{self, Write};
 use std::mem;
 use std::ops::Range;
 use wenc::Producer;
-use wenc::tree::{Child, Node, Scope, UsedIndex};
+use wenc::tree::{Child, Fields, Node, Scope, UsedIndex};
 
 /// The version of the format: it rises when what reads an earlier one may fail.
 const VERSION: u32 = 1;
@@ -210,6 +210,7 @@ impl<'o> Json<'o> {
                 values.iter().try_for_each(|(_, value)| self.element(&mut lead, value))?;
                 self.put("]")
             }
+            Node::Record("NameTree", fields) => self.name(*fields),
             Node::Record(_, fields) => self.fields(fields.iter()),
             Node::Variant(name, part) => self.fields([(*name, *part)]),
             Node::Struct(name, fields) => {
@@ -232,6 +233,27 @@ impl<'o> Json<'o> {
         self.put(lead)?;
         *lead = ",";
         self.child(value)
+    }
+
+    /// Writes a name as the owned type has it: its options are an object, unless it has none.
+    fn name(&mut self, fields: Fields) -> io::Result<()> {
+        let mut has_options = false;
+        for (key, part) in fields.iter() {
+            match (key, part.node()) {
+                ("name", name) => {
+                    self.put("{\"name\":")?;
+                    self.node(&name)?;
+                }
+                (_, option) => has_options |= !matches!(option, Node::Absent),
+            }
+        }
+        self.put(",\"options\":")?;
+        if has_options {
+            self.fields(fields.iter().skip(1))?
+        } else {
+            self.put("null")?
+        }
+        self.put("}")
     }
 
     fn fields<'a>(

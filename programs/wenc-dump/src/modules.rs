@@ -2,17 +2,18 @@
 
 use super::fault::{Fault, Kind};
 use super::phrase;
-use super::report::{Content, Contents, Core, Part};
+use super::report::{Content, Contents, Core, Part, Source};
 use super::walk::{Walk, label};
 use super::words;
 use std::io;
 use std::ops::Range;
 use wenc::tree::{CoreEntityType, IndexCounts, Space};
-use wenc::{CoreItem, CoreSection, CoreSections, Part as Unreadable, ReadError, SectionId};
+use wenc::view::CoreItemView;
+use wenc::{CoreItem, CoreSection, CoreSections, ReadError, SectionId};
 
 /// Returns the space in which an item has an index, if any.
-fn space(item: &CoreItem) -> Option<Space> {
-    let CoreItem::Import { ty, .. } = item else { return None };
+fn space(item: &CoreItemView) -> Option<Space> {
+    let CoreItemView::Import { ty, .. } = item else { return None };
     Some(match ty {
         CoreEntityType::Function(_) => Space::CoreFuncs,
         CoreEntityType::Table(_) => Space::CoreTables,
@@ -93,11 +94,9 @@ impl Walk<'_, '_> {
         }
         for item in section.items() {
             match item {
-                Ok((range, item)) => self.core_item(at, section, range, &item, counts)?,
+                Ok(item) => self.core_item(at, section, &item, counts)?,
                 Err(error) => {
-                    if error.part != Unreadable::Rest {
-                        counts.add_unknown();
-                    }
+                    counts.add_unknown();
                     self.unread(error.moved(at).into(), range.end, !are_shown)?;
                 }
             }
@@ -110,19 +109,18 @@ impl Walk<'_, '_> {
         &mut self,
         at: usize,
         section: &CoreSection,
-        range: Range<usize>,
-        item: &CoreItem,
+        CoreItem { range, view, .. }: &CoreItem,
         counts: &mut IndexCounts,
     ) -> io::Result<()> {
         let data_start = section.range.end - section.data.len();
         self.report.open(&Part::Item {
             range: at + range.start..at + range.end,
-            label: space(item).map(|space| label(counts, space, 1, None)),
-            content: Content::Node(&phrase::of_item(item.node()), &[]),
+            label: space(view).map(|space| label(counts, space, 1, None)),
+            content: Content::Node(&phrase::of_item(view.node()), &[]),
             bytes: &section.data[range.start - data_start..range.end - data_start],
-            item: None,
+            item: Source::Core(item, at),
         })?;
-        counts.define(space(item).map(|space| (space, 1)));
+        counts.define(space(view).map(|space| (space, 1)));
         self.report.close()
     }
 }

@@ -2,7 +2,7 @@
 
 use super::fault::{Fault, Kind};
 use super::phrase;
-use super::report::{Content, Contents, Label, Part, Report, Rest};
+use super::report::{Content, Contents, Label, Part, Report, Rest, Source};
 use super::sizes::{WrongSize, wrong_size};
 use super::words;
 use std::io;
@@ -48,7 +48,7 @@ pub(super) fn label<'a>(
     count: u32,
     names: Option<&'a DebugNames>,
 ) -> Label<'a> {
-    let from = Some(counts.of(space)).filter(|from| *from < u64::MAX);
+    let from = counts.of(space);
     let index = from.and_then(|from| u32::try_from(from).ok()).filter(|_| count > 0);
     let name = names.zip(index).and_then(|(names, index)| names.get(space, index));
     Label { space, from, count, name }
@@ -215,7 +215,7 @@ impl<'f> Walk<'f, '_> {
         let (own, range) = (names_of(bytes)?, item.range.clone());
         let label = Some(label(steps.counts(), Space::Components, 1, self.names.last()));
         let content = Content::Component(own.component());
-        self.report.open(&Part::Item { range, label, content, bytes: &[], item: Some(item) })?;
+        self.report.open(&Part::Item { range, label, content, bytes: &[], item: Source::Component(item) })?;
         self.begin(own, item.range.end)
     }
 
@@ -247,7 +247,7 @@ impl<'f> Walk<'f, '_> {
             }
             _ => (Content::Node(&node, &self.names), bytes),
         };
-        let part = Part::Item { range, label, content, bytes: shown, item: Some(item) };
+        let part = Part::Item { range, label, content, bytes: shown, item: Source::Component(item) };
         self.report.open(&part)?;
         self.check_item(item, steps)?;
         match view {

@@ -1,7 +1,7 @@
 //! The fields of owned types, and their indices, which may be changed.
 
 use super::Place;
-use super::shape::{Kind, Role, Shape, Values};
+use super::shape::{Kind, Layout, Role, Shape, Values};
 use crate::shim::vec::VecUsing;
 use crate::tree::indices::{IndexUse, Visitor};
 use crate::tree::{
@@ -100,8 +100,8 @@ impl<T: TreeMut> TreeMut for Vec<T> {
 }
 
 /// The shapes of a value that is another one, and of a name with an index: they have no node.
-static INNER: Shape = Shape::new(Kind::Variant, "", &[("0", Role::Plain)]);
-static INDEX: Shape = Shape::new(Kind::Variant, "", &[("0", Role::Outer)]);
+static INNER: Shape = Shape::new(Kind::Variant, "", &[("0", Role::Plain)], Layout::Tag(0));
+static INDEX: Shape = Shape::new(Kind::Variant, "", &[("0", Role::Outer)], Layout::Tag(0));
 
 impl<T: TreeMut> TreeMut for Option<T> {
     fn shape_mut<'n>(&'n mut self, values: &mut Muts<'n>) -> Option<&'static Shape> {

@@ -1,11 +1,16 @@
 //! Where a value is, which determines what an index is of, and whether there is such an index.
 
+use super::shape::Tags;
 use super::{Scope, Space};
-use crate::ComponentSectionId;
 use crate::tree::Node;
 use crate::view::ItemView;
+use crate::{ComponentSectionId, ReadError};
 
-/// How many indices each index space of a component has, before one of its items.
+/// The number of indices that each index space of a component has before one of its items
+/// (component model, explainer, "Index Spaces"). A recursion group of core types has one for each of
+/// its types.
+///
+/// Needs the feature `walk`.
 ///
 /// ```
 /// use wenc::Sections;
@@ -17,11 +22,14 @@ use crate::view::ItemView;
 /// for item in Sections::new(component)?.items() {
 ///     counts.add(&item?.view);
 /// }
-/// assert_eq!((counts.of(Space::Types), counts.of(Space::Funcs)), (1, 1));
+/// assert_eq!((counts.of(Space::Types), counts.of(Space::Funcs)), (Some(1), Some(1)));
 /// # Ok::<(), wenc::ReadError>(())
 /// ```
 #[derive(Clone, Copy, Debug, PartialEq, Eq, Hash)]
 pub struct IndexCounts([u64; Space::ALL.len()]);
+
+/// A number of indices that isn't known.
+const UNKNOWN: u64 = u64::MAX;
 
 impl Default for IndexCounts {
     #[inline]
@@ -34,10 +42,10 @@ impl IndexCounts {
     /// No indices.
     pub(crate) const NONE: Self = Self([0; Space::ALL.len()]);
 
-    /// Returns the number of indices in a space: [`u64::MAX`] after an item that can't be read and
-    /// may define some in it.
-    pub fn of(&self, space: Space) -> u64 {
-        self.0[space.number()]
+    /// Returns the number of indices in a space; `None` after what can't be read and may define some
+    /// in it.
+    pub fn of(&self, space: Space) -> Option<u64> {
+        Some(self.0[space.number()]).filter(|count| *count != UNKNOWN)
     }
 
     /// Adds the [indices that an item defines](ItemView::defined_indices).
@@ -47,18 +55,21 @@ impl IndexCounts {
 
     /// Adds an item that can't be read: then no index is out of range.
     pub fn add_unknown(&mut self) {
-        self.0 = [u64::MAX; Space::ALL.len()];
+        self.0 = [UNKNOWN; Space::ALL.len()];
     }
 
     /// Adds items of a section that can't be read: then no index is out of range in the spaces in
     /// which items of such a section define indices.
     pub fn add_unread(&mut self, section: ComponentSectionId) {
-        section.spaces().iter().for_each(|space| self.0[space.number()] = u64::MAX);
+        section.spaces().iter().for_each(|space| self.0[space.number()] = UNKNOWN);
     }
 
-    /// Returns whether there was an item that can't be read.
-    pub fn are_unknown(&self) -> bool {
-        self.0 == [u64::MAX; Space::ALL.len()]
+    /// Adds what a [`Walk`](crate::Walk) passes over for this error.
+    pub(crate) fn pass(&mut self, error: &ReadError) {
+        match error.section_id() {
+            Some(section) => self.add_unread(section),
+            None => self.add_unknown(),
+        }
     }
 
     /// Adds this many indices in a space, which [`defined_indices`](ItemView::defined_indices) of
@@ -73,6 +84,8 @@ impl IndexCounts {
 
 /// The components around an item, and the types around a declaration, each with its
 /// [`IndexCounts`].
+///
+/// Needs the feature `walk`.
 #[derive(Clone, Copy, Debug)]
 pub struct Scopes<'s>(Around<'s>);
 
@@ -96,9 +109,9 @@ impl<'s> Scopes<'s> {
         Self(Around::Type(counts, self))
     }
 
-    /// Returns the number of indices in a space of the scope that is `count` further out: 0 if
-    /// there is no such scope.
-    fn count(&self, mut count: u32, space: Space) -> u64 {
+    /// Returns the number of indices in a space of the scope that is `count` further out, if it is
+    /// known: 0 if there is no such scope.
+    fn count(&self, mut count: u32, space: Space) -> Option<u64> {
         let mut innermost = self;
         loop {
             match &innermost.0 {
@@ -111,7 +124,7 @@ impl<'s> Scopes<'s> {
                     let around =
                         usize::try_from(count).ok().and_then(|out| all.len().checked_sub(out));
                     let component = around.and_then(|around| all[..around].last());
-                    return component.map_or(0, |counts| counts.of(space));
+                    return component.map_or(Some(0), |counts| counts.of(space));
                 }
             }
         }
@@ -131,6 +144,8 @@ pub(in crate::tree) struct Place<'s> {
     is_scope: bool,
     /// The number of core types that the group around the value defines.
     group: u32,
+    /// The bytes before the value, if it is an option.
+    pub tags: Tags,
     /// The scopes around the value, if they are known.
     scopes: Option<&'s Scopes<'s>>,
 }
@@ -170,6 +185,11 @@ impl<'s> Place<'s> {
         Self { index_of: Some((space, count)), ..self }
     }
 
+    /// Returns the place of an option with these bytes before it.
+    pub fn tagged(self, tags: Tags) -> Self {
+        Self { tags, ..self }
+    }
+
     /// Returns the place of a field that is encoded after the others.
     pub fn last(self) -> Self {
         Self { is_last: true, ..self }
@@ -200,6 +220,6 @@ impl<'s> Place<'s> {
     fn count(self) -> Option<u64> {
         let ((space, count), scopes) = (self.index_of?, self.scopes?);
         let group = if count == 0 && space == Space::CoreTypes { self.group } else { 0 };
-        Some(scopes.count(count, space).saturating_add(group.into()))
+        Some(scopes.count(count, space)?.saturating_add(group.into()))
     }
 }

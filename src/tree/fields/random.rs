@@ -37,7 +37,7 @@ pub(super) trait Random: Debug {
 macro_rules! random_enum {
     ($ty:ty, {
         $($name:ident $(($one:ident $(: $of:tt)?))? $({ $($field:ident $(: $role:tt)?),+ })?
-            $(in $outer:tt)? $(=> $defined:expr)?),+ $(,)?
+            $([$($layout:tt)+])? $(in $outer:tt)? $(=> $defined:expr)?),+ $(,)?
     }) => {
         impl crate::tree::fields::random::Random for $ty {
             fn random(choices: &mut crate::tree::fields::random::Choices) -> Self {
@@ -55,7 +55,7 @@ macro_rules! random_enum {
 
 /// Implements `Random` for a struct, by its fields.
 macro_rules! random_struct {
-    ($name:ident, { $($field:ident $(: $role:tt)?),+ }) => {
+    ($name:ident, { $($field:ident $(: $role:tt)?),+ } $($layout:tt)?) => {
         impl crate::tree::fields::random::Random for $name {
             fn random(choices: &mut crate::tree::fields::random::Choices) -> Self {
                 Self { $($field: crate::tree::fields::random::Random::random(choices)),+ }
@@ -184,8 +184,9 @@ fn random_items_are_read_as_they_were_written() {
         let bytes = component(&item);
         kinds[usize::from(bytes[8])] += 1;
         let mut read = Sections::new(&bytes).expect("a component").items();
-        let view = read.next().expect("an item").expect("it is read").view;
-        assert!(read.next().is_none());
+        let one = read.next().expect("an item").expect("it is read");
+        assert!(read.next().is_none() && one.each_encoded(&bytes, |_, _| {}), "{item:?}");
+        let view = one.view;
         assert_eq!(view.to_tree(), item);
 
         let (mut owned, mut borrowed) = (Vec::new(), Vec::new());

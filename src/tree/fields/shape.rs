@@ -23,6 +23,58 @@ pub(super) enum Role {
     Last(Space),
     /// An index in this space.
     Index(Space),
+    /// An option, which may be of an index in this space, and what is encoded before it.
+    Option(Option<Space>, Tags),
+}
+
+/// The number of bytes that tell that an option is there, and that it isn't.
+#[derive(Clone, Copy, Default)]
+pub(in crate::tree) struct Tags {
+    pub present: u8,
+    pub absent: u8,
+}
+
+/// The bytes of a variant or a struct.
+#[derive(Clone, Copy)]
+pub(in crate::tree) enum Layout {
+    /// This many bytes, and the fields in their order.
+    Tag(u8),
+    /// These parts.
+    Parts(&'static [Part]),
+    /// An option that is there: its [`Tags`] are those of the field.
+    Present,
+    /// A name with its options, each with its kind.
+    Name,
+    /// A core type in its shortest form or in a longer one, whose first byte tells it.
+    SubType,
+    /// A reference type in its short form or in its long one, whose first byte tells it.
+    RefType,
+}
+
+/// A part of the bytes of a variant or a struct.
+#[derive(Clone, Copy)]
+pub(in crate::tree) enum Part {
+    /// This many bytes of its own.
+    Own(u8),
+    /// The field with this number.
+    Field(usize),
+}
+
+/// Returns the number of the field with this name.
+pub(super) const fn field(fields: &[(&str, Role)], name: &str) -> usize {
+    let mut at = 0;
+    while !is_equal(fields[at].0.as_bytes(), name.as_bytes()) {
+        at += 1;
+    }
+    at
+}
+
+const fn is_equal(a: &[u8], b: &[u8]) -> bool {
+    let mut at = 0;
+    while at < a.len() && at < b.len() && a[at] == b[at] {
+        at += 1;
+    }
+    at == a.len() && at == b.len()
 }
 
 /// The kind of node of a variant or a struct.
@@ -48,6 +100,7 @@ pub(in crate::tree) struct Shape {
     name: &'static str,
     /// The names and the roles of its fields, in the order of the Rust type.
     pub(super) fields: &'static [(&'static str, Role)],
+    pub(in crate::tree) layout: Layout,
 }
 
 /// The values of a variant or a struct, each a reference; or what a value without a shape has
@@ -119,6 +172,7 @@ impl<V, L> Values<V, L> {
     /// Returns the place of a field with this role, of a value at `place`.
     pub(super) fn place<'n>(&self, role: Role, place: Place<'n>) -> Place<'n> {
         let (count, space) = self.outer;
+        let place = place.tagged(Tags::default());
         match role {
             Role::Plain => place,
             Role::Inner => place.inner(),
@@ -126,6 +180,8 @@ impl<V, L> Values<V, L> {
             Role::Outer => place.outer(count, space),
             Role::Last(space) => place.outer(0, space).last(),
             Role::Index(space) => place.outer(0, space),
+            Role::Option(Some(space), tags) => place.outer(0, space).tagged(tags),
+            Role::Option(None, tags) => place.tagged(tags),
         }
     }
 }
@@ -135,9 +191,10 @@ impl Shape {
         kind: Kind,
         name: &'static str,
         fields: &'static [(&'static str, Role)],
+        layout: Layout,
     ) -> Self {
         assert!(fields.len() <= 4);
-        Self { kind, name, fields }
+        Self { kind, name, fields, layout }
     }
 
     /// Returns the node of a value of this shape.
@@ -184,6 +241,15 @@ macro_rules! role {
     (outer) => {
         Role::Outer
     };
+    (option) => {
+        Role::Option(None, Tags { present: 1, absent: 1 })
+    };
+    (result) => {
+        Role::Option(None, Tags { present: 1, absent: 2 })
+    };
+    ((option $space:ident)) => {
+        Role::Option(Some(Space::$space), Tags { present: 1, absent: 1 })
+    };
     ((last $space:ident)) => {
         Role::Last(Space::$space)
     };
@@ -192,24 +258,46 @@ macro_rules! role {
     };
 }
 
+/// Returns the layout of a variant or of a struct.
+macro_rules! layout {
+    ([$fields:expr]) => {
+        Layout::Tag(1)
+    };
+    ([$fields:expr] $len:literal) => {
+        Layout::Tag($len)
+    };
+    ([$fields:expr] $special:ident) => {
+        Layout::$special
+    };
+    ([$fields:expr] $($part:tt)+) => {
+        Layout::Parts(&[$(layout!(@part $fields, $part)),+])
+    };
+    (@part $fields:expr, $len:literal) => {
+        Part::Own($len)
+    };
+    (@part $fields:expr, $field:ident) => {
+        Part::Field(field($fields, stringify!($field)))
+    };
+}
+
 /// Returns the shape of a variant or of a struct.
 macro_rules! shape {
-    ($name:ident) => {
-        Shape::new(Kind::Word, stringify!($name), &[])
+    ($name:ident [$($layout:tt)*]) => {
+        Shape::new(Kind::Word, stringify!($name), &[], layout!([&[]] $($layout)*))
     };
-    ($name:ident($field:ident $(: $role:tt)?)) => {
-        shape!(Variant $name { $field $(: $role)? })
+    ($name:ident($field:ident: named) $layout:tt) => {
+        shape!(Struct $name { $field } $layout)
     };
-    ($name:ident { $($field:ident $(: $role:tt)?),+ }) => {
-        shape!(Struct $name { $($field $(: $role)?),+ })
+    ($name:ident($field:ident $(: $role:tt)?) $layout:tt) => {
+        shape!(Variant $name { $field $(: $role)? } $layout)
     };
-    ($kind:ident $name:ident { $($field:ident $(: $role:tt)?),+ }) => {
-        Shape::new(
-            Kind::$kind,
-            stringify!($name),
-            &[$((stringify!($field), role!($($role)?))),*],
-        )
+    ($name:ident { $($field:ident $(: $role:tt)?),+ } $layout:tt) => {
+        shape!(Struct $name { $($field $(: $role)?),+ } $layout)
     };
+    ($kind:ident $name:ident { $($field:ident $(: $role:tt)?),+ } [$($layout:tt)*]) => {{
+        const FIELDS: &[(&str, Role)] = &[$((stringify!($field), role!($($role)?))),*];
+        Shape::new(Kind::$kind, stringify!($name), FIELDS, layout!([FIELDS] $($layout)*))
+    }};
 }
 
 /// Sets the values of the fields, and how far out the scope of an outer index is. Returns the shape
@@ -236,4 +324,4 @@ macro_rules! filled {
     };
 }
 
-pub(super) use {filled, role, shape};
+pub(super) use {filled, layout, role, shape};

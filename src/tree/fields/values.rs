@@ -1,6 +1,6 @@
 //! The fields of containers.
 
-use super::shape::{Kind, Role, Shape};
+use super::shape::{Kind, Layout, Role, Shape};
 use super::{Elements, Node, Place, Refs, Tree, Visit};
 use crate::proved::wenc_view::View;
 use crate::tree::node::List;
@@ -19,8 +19,6 @@ macro_rules! leaves {
         }
     )+};
 }
-
-pub(super) use leaves;
 
 leaves! {
     bool, flag, _ => Node::Flag(*flag);
@@ -71,7 +69,8 @@ lists! {
 
 impl<T: Tree> Tree for Option<T> {
     fn shape<'n>(&'n self, _: Place<'n>, values: &mut Refs<'n>) -> Option<&'static Shape> {
-        static PRESENT: Shape = Shape::new(Kind::Present, "", &[("0", Role::Plain)]);
+        static PRESENT: Shape =
+            Shape::new(Kind::Present, "", &[("0", Role::Plain)], Layout::Present);
         Some(values.one(&PRESENT, self.as_ref()?))
     }
 }
@@ -79,7 +78,8 @@ impl<T: Tree> Tree for Option<T> {
 /// A name and the named value.
 impl<N: Tree, T: Tree> Tree for (N, T) {
     fn shape<'n>(&'n self, _: Place<'n>, values: &mut Refs<'n>) -> Option<&'static Shape> {
-        static PAIR: Shape = Shape::new(Kind::Tuple, "", &[("0", Role::Plain), ("1", Role::Plain)]);
+        static PAIR: Shape =
+            Shape::new(Kind::Tuple, "", &[("0", Role::Plain), ("1", Role::Plain)], Layout::Tag(0));
         Some(values.two(&PAIR, &self.0, &self.1))
     }
 }
@@ -91,6 +91,7 @@ impl<N: Tree, K: Tree + Copy + Into<Space>> Tree for (N, K, u32) {
             Kind::Tuple,
             "",
             &[("0", Role::Plain), ("1", Role::Plain), ("2", Role::Outer)],
+            Layout::Tag(0),
         );
         let (name, kind, index) = self;
         values.outer = (0, (*kind).into());

@@ -24,8 +24,9 @@ impl ItemTree {
     ///
     /// # Errors
     ///
-    /// The first part of a component that can't be read, or
-    /// [`Cause::Unwritten`](crate::Cause::Unwritten) if it can't be encoded again. The item is then unchanged, but `visit` may have been called.
+    /// The error of the first part of a component that can't be read, or
+    /// [`Cause::Unwritten`](crate::Cause::Unwritten) if it can't be encoded again. The item is then
+    /// unchanged, but `visit` may have been called.
     ///
     /// ```
     /// use wenc::list;
@@ -70,11 +71,10 @@ fn visit_outer(
     limit: usize,
     visit: &mut dyn FnMut(IndexUse<'_>),
 ) -> Result<Option<Vec<u8>>, ReadError> {
-    let mut walk = Walk::new(bytes, limit)?;
     let mut innermost = Visited::new(bytes, 1);
     // the components around it
     let mut around = Vec::new();
-    while let Some(step) = walk.next() {
+    for step in Walk::new(bytes, limit)? {
         match step {
             Step::Item(item) => innermost.visit(&item.view, visit)?,
             Step::Enter(item) => {

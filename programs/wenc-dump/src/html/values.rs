@@ -10,11 +10,11 @@
 
 use super::super::buffer::Buffer;
 use super::super::leaf::expected;
+use super::super::report::Source;
 use std::collections::HashMap;
 use std::fmt::{self, Display, Write};
 use std::hash::{DefaultHasher, Hash, Hasher};
 use std::ops::Range;
-use wenc::Item;
 use wenc::scope::{Definition, Instances, Scope as Frame, ScopeFault};
 use wenc::tree::{Encoded, Node, Scope, Space};
 
@@ -112,7 +112,8 @@ enum Open {
 /// An item that is being written.
 struct Writer<'v, 'd, 'f> {
     all: &'v mut Values<'d, 'f>,
-    id: u8,
+    /// The id of its section, of a component.
+    id: Option<u8>,
     range: Range<usize>,
     /// The item, of which bytes are changed.
     copy: Vec<u8>,
@@ -137,28 +138,34 @@ impl<'d, 'f> Values<'d, 'f> {
         Ok(Self { bytes, definitions, shapes, expected, probed, budget })
     }
 
-    /// Returns the number of the shape of an item of a section with this id, and its values.
-    pub fn item(&mut self, id: u8, item: &Item<'_>) -> Result<(usize, String), fmt::Error> {
-        let of = self.definitions.get(&item.range.start).copied();
+    /// Returns the number of the shape of an item, and its values. `id` is that of its section, if that
+    /// is one of a component.
+    pub fn item(
+        &mut self,
+        id: Option<u8>,
+        range: &Range<usize>,
+        item: Source,
+    ) -> Result<(usize, String), fmt::Error> {
+        let of = self.definitions.get(&range.start).copied();
         let bytes = self.bytes;
         let unit = Unit {
             shape: Buffer::default(),
             values: Buffer::default(),
-            key: id.into(),
+            key: hash(id),
             of,
             depth: 0,
         };
         let mut writer = Writer {
             all: self,
             id,
-            range: item.range.clone(),
+            range: range.clone(),
             copy: Vec::new(),
             units: vec![unit],
             open: Vec::new(),
             ahead: None,
         };
         let mut done = Ok(());
-        item.each_encoded_part(bytes, |step| done = done.and_then(|()| writer.step(step)));
+        item.each_part(bytes, &mut |step| done = done.and_then(|()| writer.step(step)));
         done?;
         let Unit { shape, values, .. } = writer.units.pop().ok_or(fmt::Error)?;
         Ok((self.shapes.number(shape.0)?, values.0))
@@ -206,7 +213,7 @@ impl<'d, 'f> Writer<'_, 'd, 'f> {
                 }
                 self.begin(field, node)
             }
-            Encoded::Bytes(start, end) => match &mut self.ahead {
+            Encoded::Bytes(Range { start, end }, _) => match &mut self.ahead {
                 Some((_, bytes)) => {
                     *bytes = Some((start, end));
                     Ok(())
@@ -284,6 +291,7 @@ impl<'d, 'f> Writer<'_, 'd, 'f> {
         if let Some(found) = self.all.probed.get(&key) {
             return Ok(*found);
         }
+        let Some(id) = self.id else { return Ok(None) };
         let at = offset - self.range.start;
         let Some(budget) = self.all.budget.checked_sub(self.range.len()) else { return Ok(None) };
         self.all.budget = budget;
@@ -291,7 +299,7 @@ impl<'d, 'f> Writer<'_, 'd, 'f> {
             self.copy.try_reserve(self.range.len()).map_err(|_| fmt::Error)?;
             self.copy.extend(&self.all.bytes[self.range.clone()]);
         }
-        let found = expected(self.id, &mut self.copy, at);
+        let found = expected(id, &mut self.copy, at);
         let found =
             found.map(|text| self.all.expected.number(format!("\"{text}\""))).transpose()?;
         self.all.probed.try_reserve(1).map_err(|_| fmt::Error)?;

@@ -72,8 +72,7 @@ fn json_has_them_at_their_items() {
          {\"space\":\"type\",\"component\":0,\"index\":1,\"count\":1},\
          {\"space\":\"type\",\"component\":1,\"index\":0,\"count\":0}]}",
         "\"out_of_range\":[{\"space\":\"component\",\"component\":1,\"index\":0,\"count\":0}]}",
-        "\"item\":{\"name\":{\"name\":\"g\",\"implements\":null,\"version_suffix\":null,\
-         \"external_id\":null},\"ty\":{\"Func\":99}},\
+        "\"item\":{\"name\":{\"name\":\"g\",\"options\":null},\"ty\":{\"Func\":99}},\
          \"out_of_range\":[{\"space\":\"type\",\"component\":0,\"index\":99,\"count\":2}]}",
     ] {
         assert_eq!(json.matches(item).count(), 1, "{item} in {json}");
@@ -131,7 +130,7 @@ const GROUPS: &str = "\
   0x8..0x19 core type section, 17 bytes, 2 items
     0xb core type 0 to 2 \"a\": Group(Rec([
       { is_final: true, supertype_idx: None, composite_type: Func { params: [], results: [] } },
-      { is_final: true, supertype_idx: None, composite_type: Struct([]) },
+      { is_final: true, supertype_idx: None, composite_type: Struct { fields: [] } },
       {
         is_final: true,
         supertype_idx: None,
@@ -152,7 +151,7 @@ const GROUPS: &str = "\
       0x2a..0x3b core type section, 17 bytes, 2 items
         0x2d core type 0 to 2: Group(Rec([
           { is_final: true, supertype_idx: None, composite_type: Func { params: [], results: [] } },
-          { is_final: true, supertype_idx: None, composite_type: Struct([]) },
+          { is_final: true, supertype_idx: None, composite_type: Struct { fields: [] } },
           {
             is_final: true,
             supertype_idx: None,

@@ -94,7 +94,7 @@ fn json_is_what_is_listed() {
             section(is, listed, &mut next);
         }
         assert_eq!((component.at("start").number(), end), (0, bytes.len() as u128));
-        assert_eq!((next, json.at("fault")), (listing.counts, &Value::Null));
+        assert_eq!(json.at("fault"), &Value::Null);
         compared += 1;
     }
     assert_eq!(compared, 40);
@@ -108,7 +108,7 @@ fn section(is: &Value, listed: &ListedSection, next: &mut [u128; 13]) {
     assert_eq!(items.len(), listed.items.len());
     assert_eq!(is.at("count").number(), items.len() as u128);
     for (item, listed) in items.iter().zip(&listed.items) {
-        let Some((space, count)) = listed.indices() else {
+        let Some((space, count)) = listed.defined_indices() else {
             assert_eq!((item.at("space"), item.at("index")), (&Value::Null, &Value::Null));
             continue;
         };

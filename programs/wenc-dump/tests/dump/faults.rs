@@ -172,16 +172,16 @@ bad section at 0x4d: needs 5 bytes or more from 0x4f on, where 1 is left";
     expect(FAULTY, FAULTY_TEXT, bad);
 }
 
-/// All items before them were read.
+/// The count may be wrong, and the bytes items.
 #[test]
-fn indices_behind_bytes_behind_items_are_known() {
+fn indices_behind_bytes_behind_items_are_unknown() {
     let out = "\
 0x0..0x11 component, 17 bytes
   0x8..0xc alias section, 4 bytes, 0 items
     0xb bytes behind the last item
       0xb: 00
   0xc..0x11 type section, 5 bytes, 1 item
-    0xf type 0: Defined(Own(0))
+    0xf type ?: Defined(Own(0))
 ";
     let bad = "bytes behind the last item at 0xb in the section at 0x8";
     expect(b"\x06\x02\0\0\x07\x03\x01\x69\0", out, bad);

@@ -23,8 +23,7 @@ fn sections_and_items() {
         {\"Func\":{\"is_async\":false,\"params\":[],\"result\":null}}}]},\
         {\"start\":15,\"end\":23,\"id\":10,\"kind\":\"import\",\"count\":1,\"items\":[\
         {\"start\":18,\"end\":23,\"space\":\"func\",\"index\":0,\"count\":1,\"name\":null,\"item\":\
-        {\"name\":{\"name\":\"f\",\"implements\":null,\"version_suffix\":null,\
-        \"external_id\":null},\"ty\":{\"Func\":0}}}]}]},\"fault\":null";
+        {\"name\":{\"name\":\"f\",\"options\":null},\"ty\":{\"Func\":0}}}]}]},\"fault\":null";
     let bytes = component(FUNCTION);
     expect(&[], &bytes, 0, out);
     let out = out.replace(
@@ -53,12 +52,12 @@ fn items_are_as_serde_would_write_them() {
         r#"{"CoreInstanceExport":{"instance":2,"kind":"Func","name":"a"}}"#,
         r#"{"Lift":{"core_func":5,"ty":2,"options":["UTF8",{"Memory":1}]}}"#,
         r#""TaskCancel""#,
-        r#"{"name":{"name":"v","implements":null,"version_suffix":null,"#,
+        r#"{"name":{"name":"v","options":{"implements":null,"version_suffix":null,"#,
         r#"{"Defined":{"Record":[["a",{"Primitive":"U32"}]]}}"#,
         r#"{"Resource":{"rep":"I32","dtor":null}}"#,
         r#"{"Module":[{"Export":{"name":"m","ty":{"Memory":{"minimum":1,"maximum":null,"#,
         r#"{"Group":{"Sub":{"is_final":true,"supertype_idx":null,"composite_type":{"Func":"#,
-        r#"{"Component":[{"Import":{"name":{"name":"m","implements":null,"version_suffix":null,"#,
+        r#"{"Component":[{"Import":{"name":{"name":"m","options":null},"ty":{"Func":0}}},"#,
     ];
     let (_, out, _) = dump(&["--json"], &component(sections));
     let items: Vec<&str> = out.split("\"item\":").skip(1).collect();
@@ -66,7 +65,7 @@ fn items_are_as_serde_would_write_them() {
     for (is, expected) in items.iter().zip(expected) {
         assert!(is.starts_with(expected), "{is}");
     }
-    let end = r#""external_id":"id"},"kind":"Func","index":0,"ty":{"Func":7}}}"#;
+    let end = r#""external_id":"id"}},"kind":"Func","index":0,"ty":{"Func":7}}}"#;
     assert!(items[4].contains(end), "{out}");
     assert!(items[7].contains(r#""memory64":false,"shared":false}}}}]}"#), "{out}");
     assert!(items[8].contains(r#"{"Func":{"params":["I32"],"results":[]}}}}}"#), "{out}");
