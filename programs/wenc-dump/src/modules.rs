@@ -109,9 +109,10 @@ impl Walk<'_, '_> {
         &mut self,
         at: usize,
         section: &CoreSection,
-        CoreItem { range, view, .. }: &CoreItem,
+        item: &CoreItem,
         counts: &mut IndexCounts,
     ) -> io::Result<()> {
+        let CoreItem { range, view, .. } = item;
         let data_start = section.range.end - section.data.len();
         self.report.open(&Part::Item {
             range: at + range.start..at + range.end,
