@@ -1,6 +1,7 @@
 //! A page of HTML that shows the bytes of a file, and needs nothing else.
 
 mod values;
+mod world;
 
 use super::buffer::Buffer;
 use super::check::OutOfRange;
@@ -11,8 +12,10 @@ use std::ffi::OsStr;
 use std::fmt::{self, Display, Write as _};
 use std::hash::{DefaultHasher, Hasher};
 use std::io::{self, Write};
+use std::mem;
 use std::ops::Range;
 use values::Values;
+use world::Places;
 use wenc::scope::{Definition, Instances};
 use wenc::tree::UsedIndex;
 
@@ -21,8 +24,8 @@ const SCRIPT: &str = include_str!("html/page.js");
 
 /// The SHA-256 digests of the style and the script, in base64.
 const HASHES: [&str; 2] = [
-    "8feBHdn69T5JklUpuJqrOIi2qcfu9QU/4za/rEj/1Ow=",
-    "otLqfalVpzn+ozO88DDvaPy0dCqaNfiCdO6/tQsj1LE=",
+    "qajMwMbGuteTKMl5ihqqDO/ae2RbTBhxZROJf+n6A6A=",
+    "EcqhJzdIMKsfUyG/LEZqacGt2gv/5GwuI/aPJqfJM2E=",
 ];
 
 /// The number of bytes of a part without items above which only its ends are on the page, and the
@@ -367,8 +370,8 @@ impl<'d, 'f, 't> Data<'d, 'f, 't> {
         self.rows.write_str("]")
     }
 
-    /// Writes the object of the file with this name.
-    pub fn print(mut self, out: &mut dyn Write, name: &str) -> io::Result<()> {
+    /// Writes the object of the file with this name, whose world is this text.
+    pub fn print(mut self, out: &mut dyn Write, name: &str, world: &str) -> io::Result<()> {
         let (size, is_short) = (self.bytes.len(), self.is_short);
         write!(out, "{{\"file\":{},\"size\":{size},\"short\":{is_short},", Text(name))?;
         write!(out, "\"words\":[")?;
@@ -384,6 +387,14 @@ impl<'d, 'f, 't> Data<'d, 'f, 't> {
             write!(out, "{lead}[{place},{cause},{},\"{expected}\"]", Text(message))?;
             lead = ",";
         }
+        let root = self.values.root;
+        let places = Places::new(root).ok_or(io::ErrorKind::OutOfMemory)?;
+        let mut lead = "],\n\"wit\":[";
+        let world = if world.len() < TEXT { world } else { "// It is too long." };
+        places.each_line(world, |line, place| {
+            write!(out, "{}[{},{place}]", mem::replace(&mut lead, ","), Text(line))
+        })?;
+        out.write_all(if lead == "," { b"" } else { lead.as_bytes() })?;
         // the bytes before each that are cut, and a hash of these
         let (mut from, mut lead) = (0, "],\n\"bytes\":[");
         for cut in self.cut.iter().cloned().chain([size..size]) {

@@ -17,7 +17,7 @@ use std::fmt::{self, Write as _};
 use std::fs;
 use std::io::{self, BufWriter, Read, Write};
 use std::path::Path;
-use wenc::Part;
+use wenc::{CoreSections, Part};
 use wenc::scope::Definitions;
 
 /// The streams that the program reads and writes.
@@ -185,7 +185,7 @@ fn page(options: &Options, streams: &mut Streams, status: &mut u8) -> io::Result
     for (at, ((file, bytes), name)) in files.iter().zip(&names).enumerate() {
         out.write_all(if at == 0 { b"" } else { b"," })?;
         let text = Text::new(&mut text, style);
-        let print = |data: Data| data.print(*out, name);
+        let print = |data: Data, world: &str| data.print(*out, name, world);
         match data((file, bytes), text, &mut |fault| tell(file, fault), print) {
             Err(error) if error.kind() == io::ErrorKind::OutOfMemory => {
                 tell(file, &Kind::NoMemory.into());
@@ -203,7 +203,7 @@ fn data(
     (file, bytes): (&OsStr, &[u8]),
     text: Text,
     on_fault: &mut dyn FnMut(&Fault),
-    print: impl FnOnce(Data) -> io::Result<()>,
+    print: impl FnOnce(Data, &str) -> io::Result<()>,
 ) -> io::Result<()> {
     let mut is_whole = true;
     let definitions =
@@ -219,7 +219,13 @@ fn data(
         on_fault(fault);
         data.fault(fault)?;
     }
-    print(data)
+    // without a world it isn't a component
+    let world = if CoreSections::new(bytes).is_ok() || bytes.len() < 8 {
+        String::new()
+    } else {
+        Wit::of(&instances, bytes.len()).0
+    };
+    print(data, &world)
 }
 
 /// Returns the bytes of a file.

@@ -303,6 +303,7 @@ const box = (name, role, label) => {
   return Object.assign(box, { tall: box.firstChild, inner: box.firstChild.firstChild });
 };
 const tree = box('tree', 'tree', 'Sections and items');
+const wit = box('wit', 'listbox', 'The world as WIT');
 const bytes = box('hex', 'group', 'Bytes; the arrow keys move');
 const status = make('div', { className: 'status', 'aria-live': 'polite' });
 const item = make('section', { className: 'item', 'aria-label': 'Item', tabIndex: -1 });
@@ -310,7 +311,7 @@ const banner = make('div', { className: 'banner', role: 'status' });
 const bar = make('div', { className: 'bar', role: 'group', 'aria-label': 'Sections by size' });
 const title = make('h1', { className: 'name' }), summary = make('p');
 const KEYS = { '/': 'find', '[': 'back', ']': 'forward', n: 'next fault or difference', p: 'previous one',
-  x: 'the other file', '← ↑ ↓ →': 'move among bytes, or in the tree', Enter: 'from the tree to the bytes', '?': 'this help' };
+  x: 'the other file', w: 'the world as WIT, or the tree', '← ↑ ↓ →': 'move among bytes, or in the tree', Enter: 'from the tree to the bytes', '?': 'this help' };
 const help = make('dialog', { 'aria-label': 'Keys' }, make('h2', {}, 'Keys'), make('dl', {},
   ...Object.entries(KEYS).flatMap(([key, what]) => [make('dt', {}, make('kbd', {}, key)), make('dd', {}, what)])),
   make('p', {}, 'A byte’s place in the page’s address, such as #0x52, can be shared. Bytes have the colour of their section, lighter and darker by item.'),
@@ -408,6 +409,22 @@ virtual(bytes, LINE, (number) => {
   line.append(...letters, make('span', { className: 'note' }, notes.slice(-2).join(', ')));
   return line;
 });
+
+/** Returns whether a line of WIT comes from the row that is shown. */
+const isChosen = (place) => place > 0 && chosen?.k === 'item' && place >= chosen.s && place < chosen.e;
+virtual(wit, LINE, (number) => {
+  const [text, place] = file.wit[number], isOn = isChosen(place);
+  const line = make('div', { className: `line${isOn ? ' chosen' : ''}`, role: 'option', 'aria-selected': isOn }, visible(text));
+  if (place) line.onclick = () => go(place);
+  return line;
+});
+function showWit(isOn, line = file.wit.findIndex(([, place]) => isChosen(place))) {
+  [tree.hidden, find.hidden, space.hidden, wit.hidden] = [isOn, isOn, isOn, !isOn];
+  tabs.forEach((tab, i) => tab.setAttribute('aria-selected', i === Number(isOn)));
+  if (!isOn) return list();
+  wit.draw(file.wit.length);
+  if (line >= 0) wit.show(line);
+}
 
 /** Says what a byte is. */
 function tell(place, live = 'polite') {
@@ -507,6 +524,8 @@ function describe() {
     const to = place && file.rowOf(place);
     if (to) fact(key, make('span', {}, linkToRow(to, 6), to.s === place ? '' : ` at ${at(place)}`));
   }
+  const line = file.wit.findIndex(([, place]) => isChosen(place));
+  if (line >= 0) fact('WIT', make('button', { className: 'link', onclick: () => showWit(true, line) }, visible(file.wit[line][0].trim())));
   if (files.length > 1) fact('other file', row.other ? make('span', {}, linkToRow(row.other), row.differs ? ' ≠ differs' : ' the same bytes') : `${state} ${SAYS[state]}`);
   const wrong = file.faults.filter(([place, cause]) => file.rowOf(Math.min(place, file.size - 1)) === row
     || (cause >= row.s && cause < row.e && row.k !== 'component' && row.k !== 'section'));
@@ -534,6 +553,7 @@ function choose(row, place = row?.s ?? 0, isNew = true) {
   leaf = kept = new Set(bytesOf(node));
   bytes.show(file.lineOf(place));
   tree.draw();
+  if (!wit.hidden) showWit(true);
   bytes.draw(file.lineCount);
   describe();
   tell(place);
@@ -576,10 +596,11 @@ function show(of, isFirst) {
   const notes = [left && `${count(left, 'byte')} of core modules and custom sections are left out.`, file.short && 'The file is large: later items are left out.'];
   title.textContent = visible(file.name);
   summary.textContent = `${rows[0] ? label(rows[0]) : 'unknown file'} · ${count(size, 'byte')} · ${many('section')} · ${many('item')}${faults.length ? ` · ${count(faults.length, 'fault')}` : ''}. ${notes.filter(Boolean).join(' ')}`;
-  [...tabs.children].forEach((tab, i) => tab.setAttribute('aria-pressed', files[i] === file));
+  [...names.children].forEach((tab, i) => tab.setAttribute('aria-pressed', files[i] === file));
+  tabList.hidden = !file.wit.length;
   bytes.draw(file.lineCount);
   chosen = rows[0];
-  list();
+  showWit(!wit.hidden && file.wit.length > 0);
 }
 const swap = () => {
   if (files.length < 2) return;
@@ -587,11 +608,14 @@ const swap = () => {
   show(files[1 - file.number]);
   if (other) choose(other); else go(0);
 };
-const tabs = make('div', { className: 'files', role: 'group', 'aria-label': 'Files' }, ...(files.length < 2 ? [] : files)
+const names = make('div', { className: 'files', role: 'group', 'aria-label': 'Files' }, ...(files.length < 2 ? [] : files)
   .map((of, i) => make('button', { onclick: () => { if (of !== file) swap(); } }, `${'AB'[i]}: ${visible(of.name)}`)));
+const tabs = ['Items', 'WIT'].map((name, i) => make('button', { role: 'tab', onclick: () => showWit(i === 1) }, name));
+const tabList = make('div', { className: 'tabs', role: 'tablist' }, ...tabs);
+wit.hidden = true;
 document.body.append(
-  make('header', {}, title, summary, tabs, make('button', { onclick: () => help.showModal(), title: 'Keys (?)' }, 'Keys')),
-  bar, banner, make('main', {}, make('section', { className: 'tree', 'aria-label': 'Tree' }, make('div', { className: 'find' }, find, space), tree),
+  make('header', {}, title, summary, names, make('button', { onclick: () => help.showModal(), title: 'Keys (?)' }, 'Keys')),
+  bar, banner, make('main', {}, make('section', { className: 'tree', 'aria-label': 'Tree' }, tabList, make('div', { className: 'find' }, find, space), tree, wit),
     make('section', { className: 'bytes', 'aria-label': 'Bytes' }, bytes, status), item), help);
 banner.hidden = !findings.length;
 
@@ -627,6 +651,14 @@ tree.addEventListener('keydown', (event) => {
   else return;
   event.preventDefault();
 });
+wit.addEventListener('keydown', (event) => {
+  const by = { ArrowDown: 1, ArrowUp: -1 }[event.key], { wit: all } = file;
+  if (!by) return;
+  event.preventDefault();
+  let line = all.findIndex(([, place]) => place === caret);
+  do line += by; while (all[line] && (!all[line][1] || all[line][1] === caret));
+  if (all[line]) go(all[line][1]);
+});
 bytes.addEventListener('keydown', (event) => {
   const page = 16 * Math.floor(bytes.clientHeight / LINE), column = caret % 16;
   const by = { ArrowRight: 1, ArrowLeft: -1, ArrowDown: 16, ArrowUp: -16, PageDown: page, PageUp: -page, Home: -column, End: 15 - column }[event.key];
@@ -639,7 +671,7 @@ document.addEventListener('keydown', (event) => {
   const isTyped = (event.ctrlKey || event.altKey) && !event.getModifierState('AltGraph');
   if (isTyped || event.metaKey || /^(INPUT|SELECT)$/.test(event.target.tagName)) return;
   const act = { '/': () => find.focus(), '[': () => { if (history.state > 0) history.back(); }, ']': () => history.forward(),
-    n: () => showFinding(1), p: () => showFinding(-1), x: swap, '?': () => help.showModal() }[event.key];
+    w: () => showWit(wit.hidden && file.wit.length > 0), n: () => showFinding(1), p: () => showFinding(-1), x: swap, '?': () => help.showModal() }[event.key];
   if (act) { event.preventDefault(); act(); }
 });
 /** Shows the byte of the page's address; false if it has none. */

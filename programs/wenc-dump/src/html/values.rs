@@ -64,6 +64,7 @@ impl Numbered {
 /// What is written of all items.
 pub struct Values<'d, 'f> {
     bytes: &'f [u8],
+    pub root: Frame<'d, 'f>,
     pub definitions: ByPlace<'d, 'f>,
     pub shapes: Numbered,
     pub expected: Numbered,
@@ -132,10 +133,11 @@ fn hash(of: impl Hash) -> u64 {
 impl<'d, 'f> Values<'d, 'f> {
     pub fn new(bytes: &'f [u8], instances: &'d Instances<'d, 'f>) -> Result<Self, fmt::Error> {
         let mut definitions = HashMap::new();
-        collect(instances.component(), &mut definitions)?;
+        let root = instances.component();
+        collect(root, &mut definitions)?;
         let (shapes, expected, probed) = Default::default();
         let budget = bytes.len().saturating_mul(PROBES).saturating_add(0x1000);
-        Ok(Self { bytes, definitions, shapes, expected, probed, budget })
+        Ok(Self { bytes, root, definitions, shapes, expected, probed, budget })
     }
 
     /// Returns the number of the shape of an item, and its values. `id` is that of its section, if that
