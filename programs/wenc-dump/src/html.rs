@@ -15,16 +15,16 @@ use std::io::{self, Write};
 use std::mem;
 use std::ops::Range;
 use values::Values;
-use world::Places;
 use wenc::scope::{Definition, Instances};
-use wenc::tree::UsedIndex;
+use wenc::tree::{Space, UsedIndex};
+use world::Places;
 
 const STYLE: &str = include_str!("html/page.css");
 const SCRIPT: &str = include_str!("html/page.js");
 
 /// The SHA-256 digests of the style and the script, in base64.
 const HASHES: [&str; 2] = [
-    "qajMwMbGuteTKMl5ihqqDO/ae2RbTBhxZROJf+n6A6A=",
+    "UzUH/wdf3KidjEqTNaxSf/Q6GtYBna95m4B57JfdV5M=",
     "EcqhJzdIMKsfUyG/LEZqacGt2gv/5GwuI/aPJqfJM2E=",
 ];
 
@@ -156,6 +156,8 @@ pub struct Data<'d, 'f, 't> {
     last: usize,
     open: Vec<Open>,
     words: Vec<String>,
+    /// The numbers of the words for spaces, of which there are few.
+    spaces: Vec<(Space, usize)>,
     /// The bytes that aren't on the page.
     cut: Vec<Range<usize>>,
     wrong: Vec<Wrong>,
@@ -190,9 +192,22 @@ impl<'d, 'f, 't> Data<'d, 'f, 't> {
     ) -> io::Result<Self> {
         let (text, is_short) = (Some(text), false);
         let values = Values::new(bytes, instances).map_err(no_memory)?;
-        let (rows, words, open) = Default::default();
+        let (rows, words, spaces, open) = Default::default();
         let (counts, last, cut, wrong) = ((0, 0), 0, Vec::new(), Vec::new());
-        Ok(Self { bytes, text, values, rows, counts, last, open, words, cut, wrong, is_short })
+        Ok(Self {
+            bytes,
+            text,
+            values,
+            rows,
+            counts,
+            last,
+            open,
+            words,
+            spaces,
+            cut,
+            wrong,
+            is_short,
+        })
     }
 
     /// Adds a fault.
@@ -279,7 +294,15 @@ impl<'d, 'f, 't> Data<'d, 'f, 't> {
     /// Writes the indices of an item, or what there is instead of them, and a debug name.
     fn label(&mut self, label: Option<&Label>, at: usize) -> fmt::Result {
         let Some(label) = label else { return self.rows.write_str(",-1,-1,0,0") };
-        let word = self.word(&label.space)?;
+        let known = self.spaces.iter().find(|(space, _)| *space == label.space);
+        let word = match known {
+            Some((_, word)) => *word,
+            None => {
+                let word = self.word(&label.space)?;
+                self.spaces.push((label.space, word));
+                word
+            }
+        };
         // definitions know more indices after an item that can't be read
         let known = self.values.definitions.get(&at).and_then(|of| of.index()).map(u64::from);
         let from = label.from.or(known).map_or(-1, i128::from);

@@ -17,8 +17,8 @@ use std::fmt::{self, Write as _};
 use std::fs;
 use std::io::{self, BufWriter, Read, Write};
 use std::path::Path;
-use wenc::{CoreSections, Part};
 use wenc::scope::Definitions;
+use wenc::{CoreSections, Part};
 
 /// The streams that the program reads and writes.
 pub struct Streams<'s> {
@@ -180,7 +180,7 @@ fn page(options: &Options, streams: &mut Streams, status: &mut u8) -> io::Result
     let name = |file| Path::new(Path::new(file).file_name().unwrap_or(file)).display().to_string();
     let names: Vec<String> = files.iter().map(|(file, _)| name(file)).collect();
     let (name, mut text) = (names.join(", "), Front::default());
-    let style = Style { has_titles: files.len() > 1, columns: COLUMNS, ..Style::default() };
+    let style = Style { has_titles: files.len() > 1, columns: usize::MAX, ..Style::default() };
     html::begin(*out, &name)?;
     for (at, ((file, bytes), name)) in files.iter().zip(&names).enumerate() {
         out.write_all(if at == 0 { b"" } else { b"," })?;

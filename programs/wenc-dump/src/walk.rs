@@ -215,7 +215,13 @@ impl<'f> Walk<'f, '_> {
         let (own, range) = (names_of(bytes)?, item.range.clone());
         let label = Some(label(steps.counts(), Space::Components, 1, self.names.last()));
         let content = Content::Component(own.component());
-        self.report.open(&Part::Item { range, label, content, bytes: &[], item: Source::Component(item) })?;
+        self.report.open(&Part::Item {
+            range,
+            label,
+            content,
+            bytes: &[],
+            item: Source::Component(item),
+        })?;
         self.begin(own, item.range.end)
     }
 
@@ -247,7 +253,8 @@ impl<'f> Walk<'f, '_> {
             }
             _ => (Content::Node(&node, &self.names), bytes),
         };
-        let part = Part::Item { range, label, content, bytes: shown, item: Source::Component(item) };
+        let part =
+            Part::Item { range, label, content, bytes: shown, item: Source::Component(item) };
         self.report.open(&part)?;
         self.check_item(item, steps)?;
         match view {

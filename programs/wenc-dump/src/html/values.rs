@@ -13,7 +13,6 @@ use super::super::leaf::expected;
 use super::super::report::Source;
 use std::collections::HashMap;
 use std::fmt::{self, Display, Write};
-use std::hash::{DefaultHasher, Hash, Hasher};
 use std::ops::Range;
 use wenc::scope::{Definition, Instances, Scope as Frame, ScopeFault};
 use wenc::tree::{Encoded, Node, Scope, Space};
@@ -85,7 +84,7 @@ struct Unit<'d, 'f> {
 }
 
 /// The name of a value.
-#[derive(Clone, Copy, Hash)]
+#[derive(Clone, Copy)]
 enum Name {
     Word(&'static str),
     Space(Space),
@@ -124,10 +123,14 @@ struct Writer<'v, 'd, 'f> {
     ahead: Option<(&'static str, Option<(usize, usize)>)>,
 }
 
-fn hash(of: impl Hash) -> u64 {
-    let mut hasher = DefaultHasher::new();
-    of.hash(&mut hasher);
-    hasher.finish()
+/// Returns a hash of a hash and a number.
+fn hash(key: u64, number: u64) -> u64 {
+    (key ^ number).wrapping_mul(0x9e37_79b9_7f4a_7c15).rotate_left(29)
+}
+
+/// Returns a hash of a hash and a word, which is the same wherever it is the same text in memory.
+fn hash_of_word(key: u64, word: &'static str) -> u64 {
+    hash(hash(key, word.as_ptr().addr() as u64), word.len() as u64)
 }
 
 impl<'d, 'f> Values<'d, 'f> {
@@ -153,7 +156,7 @@ impl<'d, 'f> Values<'d, 'f> {
         let unit = Unit {
             shape: Buffer::default(),
             values: Buffer::default(),
-            key: hash(id),
+            key: id.map_or(0, u64::from),
             of,
             depth: 0,
         };
@@ -254,7 +257,11 @@ impl<'d, 'f> Writer<'_, 'd, 'f> {
             unit.shape.write_str(text)?;
         }
         write!(unit.shape, "{name}\"")?;
-        unit.key = hash((unit.key, kind, field, name));
+        unit.key = [kind, field].into_iter().fold(unit.key, hash_of_word);
+        unit.key = match name {
+            Name::Word(word) => hash_of_word(unit.key, word),
+            Name::Space(space) => hash(unit.key, space as u64),
+        };
         self.open.push(Open::Other);
         bytes.map_or(Ok(()), |(start, end)| self.own(start, end))?;
         self.open.pop();
@@ -282,14 +289,14 @@ impl<'d, 'f> Writer<'_, 'd, 'f> {
             }
         }
         let unit = self.unit()?;
-        unit.key = hash((unit.key, len));
+        unit.key = hash(unit.key, len as u64);
         Ok(())
     }
 
     /// Returns the number of what may stand at this byte offset, which is the byte with this number
     /// of those that follow in the shape.
     fn expected(&mut self, offset: usize, number: usize) -> Result<Option<usize>, fmt::Error> {
-        let key = hash((self.unit()?.key, number));
+        let key = hash(self.unit()?.key, number as u64);
         if let Some(found) = self.all.probed.get(&key) {
             return Ok(*found);
         }

@@ -79,10 +79,13 @@ impl Places {
         }
         let (first, rest) = line.split_once(' ').unwrap_or((line, ""));
         let is_name = |letter: char| letter.is_alphanumeric() || "-%".contains(letter);
-        let word = |text: &str| text.split(|letter| !is_name(letter)).next().unwrap_or("").to_owned();
+        let word =
+            |text: &str| text.split(|letter| !is_name(letter)).next().unwrap_or("").to_owned();
         let around = open.last();
         let (name, opened) = match (first, around) {
-            ("package", _) => (String::new(), Open::Package(rest.trim_end_matches(" {").to_owned())),
+            ("package", _) => {
+                (String::new(), Open::Package(rest.trim_end_matches(" {").to_owned()))
+            }
             ("world", _) => (String::new(), Open::World),
             ("interface", Some(Open::Package(package))) => {
                 let (package, version) = package.split_once('@').unwrap_or((package, ""));
