@@ -24,8 +24,8 @@ const SCRIPT: &str = include_str!("html/page.js");
 
 /// The SHA-256 digests of the style and the script, in base64.
 const HASHES: [&str; 2] = [
-    "UzUH/wdf3KidjEqTNaxSf/Q6GtYBna95m4B57JfdV5M=",
-    "EcqhJzdIMKsfUyG/LEZqacGt2gv/5GwuI/aPJqfJM2E=",
+    "E/DF2QIhfd8DIrVzkY8IoPC9LQcMrtcYcGm12i3Wmbs=",
+    "KR09imXFWNt9OsEM3yFmXsYDW3wTD2rX9ydYL5OaRtQ=",
 ];
 
 /// The number of bytes of a part without items above which only its ends are on the page, and the
@@ -38,6 +38,9 @@ const END: usize = 0x1000;
 const BYTES: usize = 0x80_0000;
 const ITEMS: usize = 100_000;
 const ROWS: usize = 400_000;
+
+/// The number of bytes that are shown: those after them are left out.
+const SHOWN: usize = 0x100_0000;
 
 /// The number of faults that are shown.
 const FAULTS: usize = 1_000;
@@ -419,17 +422,22 @@ impl<'d, 'f, 't> Data<'d, 'f, 't> {
         })?;
         out.write_all(if lead == "," { b"" } else { lead.as_bytes() })?;
         // the bytes before each that are cut, and a hash of these
-        let (mut from, mut lead) = (0, "],\n\"bytes\":[");
-        for cut in self.cut.iter().cloned().chain([size..size]) {
+        let (mut from, mut lead, mut left) = (0, "],\n\"bytes\":[", SHOWN);
+        for mut cut in self.cut.iter().cloned().chain([size..size]) {
+            if cut.start - from > left {
+                cut = from + left..size;
+            }
             let mut hasher = DefaultHasher::new();
             hasher.write(&self.bytes[cut.clone()]);
             let hash = hasher.finish();
-            write!(
-                out,
-                "{lead}[{from},\"{}\",\"{hash:x}\"]",
-                Base64(&self.bytes[from..cut.start])
-            )?;
-            (from, lead) = (cut.end, ",");
+            let bytes = Base64(&self.bytes[from..cut.start]);
+            write!(out, "{lead}[{from},\"{bytes}\",\"{hash:x}\"]")?;
+            (left, lead) = (left - (cut.start - from), ",");
+            from = cut.end;
+            if from == size && cut.start < size {
+                write!(out, ",[{size},\"\",\"\"]")?;
+                break;
+            }
         }
         out.write_all(b"]}")
     }

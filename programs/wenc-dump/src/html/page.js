@@ -20,6 +20,8 @@ function make(tag, props, ...kids) {
   element.append(...kids);
   return element;
 }
+const span = (className, ...kids) => make('span', { className }, ...kids);
+const div = (className, ...kids) => make('div', { className }, ...kids);
 /** Returns the last number below `length` for which something that holds first does, or -1. */
 function last(length, holds) {
   let [low, high] = [0, length];
@@ -326,7 +328,7 @@ function virtual(box, height, line) {
     const end = Math.min(total, Math.ceil((box.scrollTop + box.clientHeight) / height) + 8);
     box.inner.style.top = `${first * height}px`;
     box.inner.replaceChildren(...Array.from({ length: Math.max(0, end - first) }, (_, i) => line(first + i)));
-    if (!total) box.inner.append(make('div', { className: 'empty' }, file.rows.length ? 'Nothing is found.' : 'This is neither a component nor a core module.'));
+    if (!total) box.inner.append(div('empty', file.rows.length ? 'Nothing is found.' : 'This is neither a component nor a core module.'));
   };
   box.show = (number) => {
     const top = number * height, { scrollTop, clientHeight } = box;
@@ -365,9 +367,9 @@ virtual(tree, ROW, (place) => {
     make('span', { className: 'twist', 'aria-hidden': true }, row.kids.length ? (isOpen ? '▼' : '▶') : ''),
     make('span', { className: 'swatch', 'aria-hidden': true }),
     make('span', { className: row.k === 'unread' ? 'label bad-text' : 'label' }, `${row.k === 'unread' ? '! ' : ''}${label(row, true)}`),
-    make('span', { className: 'brief name' }, many + brief(row)),
+    span('brief name', many + brief(row)),
     ...(state ? [make('span', { className: 'state', title: SAYS[state], 'aria-label': SAYS[state] }, state)] : []),
-    make('span', { className: 'at' }, at(row.s)));
+    span('at', at(row.s)));
   if (row.kids.length) line.setAttribute('aria-expanded', isOpen);
   line.style.paddingLeft = `${6 + 13 * Math.min(row.depth, 14)}px`;
   line.onclick = ({ target }) => {
@@ -384,9 +386,9 @@ function toggle(row, wanted = !open.has(row)) {
 let [leaf, kept] = [new Set(), new Set()];
 virtual(bytes, LINE, (number) => {
   const [first, from, end, chunk] = file.lines[last(file.lines.length, (i) => file.lines[i][0] <= number)];
-  if (chunk === undefined) return make('div', { className: 'line dots' }, `        ⋮  ${count(end - from, 'byte')} left out, ${at(from)} to ${at(end - 1)}`);
+  if (chunk === undefined) return div('line dots', `        ⋮  ${count(end - from, 'byte')} left out, ${at(from)} to ${at(end - 1)}`);
   const start = from + 16 * (number - first), line = make('div', { className: 'line' }), letters = [], notes = [];
-  const off = line.appendChild(make('span', { className: 'off' }, hex(start, file.size > 0xffffff ? 8 : 6)));
+  const off = line.appendChild(span('off', hex(start, file.size > 0xffffff ? 8 : 6)));
   for (let place = start; place < start + 16; place++) {
     const gap = place === start + 8 ? ' half' : '', front = place === start ? ' first' : '';
     if (place >= end || place < file.chunks[chunk][0]) {
@@ -406,7 +408,7 @@ virtual(bytes, LINE, (number) => {
     const letter = byte > 32 && byte < 127 ? String.fromCharCode(byte) : '·';
     letters.push(Object.assign(make('i', { className: kind + front }, letter), { place }));
   }
-  line.append(...letters, make('span', { className: 'note' }, notes.slice(-2).join(', ')));
+  line.append(...letters, span('note', notes.slice(-2).join(', ')));
   return line;
 });
 
@@ -431,11 +433,11 @@ function tell(place, live = 'polite') {
   status.setAttribute('aria-live', live);
   const row = file.rowOf(place), byte = file.byte(place);
   const where = row ? `${row.up === undefined ? '' : kindOf(row) + ' › '}${label(row)}` : '';
-  status.replaceChildren(make('code', {}, `${at(place)}  ${byte === undefined ? '··' : hex(byte, 2)}`), '  ', make('span', { className: 'dim' }, where));
+  status.replaceChildren(make('code', {}, `${at(place)}  ${byte === undefined ? '··' : hex(byte, 2)}`), '  ', span('dim', where));
   if (!row || byte === undefined) return;
   const [what, more] = meaningOf(row, place);
   if (what) status.append(make('br'), clip(what));
-  if (more) status.append(make('br'), make('span', { className: 'dim' }, / /.test(more) ? `Here can be ${more}.` : `Only ${more} can be here.`));
+  if (more) status.append(make('br'), span('dim', / /.test(more) ? `Here can be ${more}.` : `Only ${more} can be here.`));
 }
 function meaningOf(row, place) {
   const i = place - row.s;
@@ -464,7 +466,7 @@ const linkTo = (place, text, of = file) => make('a', { href: '#' + at(place), on
 } }, text);
 function linkToRow(row, most = 4) {
   const size = row.k === 'section' ? `${row.c === undefined ? '' : count(row.c, 'item') + ', '}${count(row.e - row.s, 'byte')} ` : '';
-  return make('span', {}, linkTo(row.s, label(row), row.file), ' ', make('span', { className: 'brief name' }, size + brief(row, most)));
+  return make('span', {}, linkTo(row.s, label(row), row.file), ' ', span('brief name', size + brief(row, most)));
 }
 /** Marks the bytes of a value and of those within it. */
 function mark(node) {
@@ -474,7 +476,7 @@ function mark(node) {
 }
 /** Returns a value: what is on its line, and the lines of its parts. */
 function lineOf(node) {
-  const piece = (className, text) => Object.assign(make('span', { className: `${className} node` }, text), { node,
+  const piece = (className, text) => Object.assign(span(`${className} node`, text), { node,
     onmouseenter: () => mark(node), onmouseleave: () => mark(), onclick: () => { if (node.e > node.s) go(node.s); } });
   const word = (className) => node.word ? [piece(className, node.word)] : [];
   const kinds = { t: () => [piece('string name', valueOf(node))], n: () => [piece('word', valueOf(node))],
@@ -485,9 +487,9 @@ function lineOf(node) {
     const target = node.link > 0 && file.rowOf(node.link), text = valueOf(node);
     const link = target ? linkTo(node.link, text) : make('span', {}, text);
     Object.assign(link, { node, onmouseenter: () => mark(node), onmouseleave: () => mark() });
-    if (node.link < 0) return [[Object.assign(link, { className: 'bad-text' }), make('span', { className: 'bad-text' }, `! out of range: there are ${-1 - node.link}`)], []];
+    if (node.link < 0) return [[Object.assign(link, { className: 'bad-text' }), span('bad-text', `! out of range: there are ${-1 - node.link}`)], []];
     const more = !target ? '' : target === chosen ? `at ${at(node.link)} in this item` : brief(target, 3);
-    return [[link, make('span', { className: 'key name' }, more)], []];
+    return [[link, span('key name', more)], []];
   }
   const inline = kinds[node.kind](), below = [];
   const parts = node.kids.map((kid) => [kid, ...lineOf(kid)]);
@@ -495,7 +497,7 @@ function lineOf(node) {
     || (node.kind === 'r' && parts.length < 4 && parts.every(([, more, deeper]) => !deeper.length && more.length < 5));
   for (const [kid, more, deeper] of parts) {
     if (node.kind !== 'l' && isShort) {
-      if (node.kind === 'r' && node.word) inline.push(make('span', { className: 'key' }, `${kid.key}:`));
+      if (node.kind === 'r' && node.word) inline.push(span('key', `${kid.key}:`));
       inline.push(...more);
       below.push(...deeper);
     } else below.push(laid(kid.position ?? `${kid.key}:`, more, deeper));
@@ -503,7 +505,7 @@ function lineOf(node) {
   return [inline, below];
 }
 function laid(key, inline, below) {
-  const head = make('div', {}, ...(key === '' ? [] : [make('span', { className: 'key' }, String(key)), ' ']));
+  const head = make('div', {}, ...(key === '' ? [] : [span('key', String(key)), ' ']));
   inline.forEach((span) => head.append(span, ' '));
   return make('li', {}, head, ...(below.length ? [make('ul', {}, ...below)] : []));
 }
@@ -529,12 +531,12 @@ function describe() {
   if (files.length > 1) fact('other file', row.other ? make('span', {}, linkToRow(row.other), row.differs ? ' ≠ differs' : ' the same bytes') : `${state} ${SAYS[state]}`);
   const wrong = file.faults.filter(([place, cause]) => file.rowOf(Math.min(place, file.size - 1)) === row
     || (cause >= row.s && cause < row.e && row.k !== 'component' && row.k !== 'section'));
-  item.replaceChildren(make('div', { className: 'crumbs' }, ...crumbs),
-    make('h2', {}, label(row), ' ', make('span', { className: 'name' }, nameOf(row))), facts,
+  item.replaceChildren(div('crumbs', ...crumbs),
+    make('h2', {}, label(row), ' ', span('name', nameOf(row))), facts,
     ...wrong.map(([, , what]) => make('p', { className: 'bad-text' }, `! ${visible(what)}`)));
   if (nodeOf(row)) item.append(make('h3', {}, kindOf(row)), make('ul', { className: 'nodes' }, laid('', ...lineOf(nodeOf(row)))));
   const kids = row.kids.map((n) => file.rows[n]).filter((kid) => kid.k !== 'unread');
-  if (kids.length) section('Contains', kids, (kid) => kid.k === 'entry' ? make('span', { className: 'name' }, `${label(kid)} ${brief(kid)}`) : linkToRow(kid));
+  if (kids.length) section('Contains', kids, (kid) => kid.k === 'entry' ? span('name', `${label(kid)} ${brief(kid)}`) : linkToRow(kid));
   if (row.x?.[2] > 0) {
     const users = [...(file.users.get(row.s) ?? [])].map((n) => file.rows[n]);
     section(`Used by ${users.length || 'nothing here'}`, users, (user) => make('span', {}, user.x ? '' : `${kindOf(user)} `, linkToRow(user)));
@@ -615,7 +617,7 @@ const tabList = make('div', { className: 'tabs', role: 'tablist' }, ...tabs);
 wit.hidden = true;
 document.body.append(
   make('header', {}, title, summary, names, make('button', { onclick: () => help.showModal(), title: 'Keys (?)' }, 'Keys')),
-  bar, banner, make('main', {}, make('section', { className: 'tree', 'aria-label': 'Tree' }, tabList, make('div', { className: 'find' }, find, space), tree, wit),
+  bar, banner, make('main', {}, make('section', { className: 'tree', 'aria-label': 'Tree' }, tabList, div('find', find, space), tree, wit),
     make('section', { className: 'bytes', 'aria-label': 'Bytes' }, bytes, status), item), help);
 banner.hidden = !findings.length;
 

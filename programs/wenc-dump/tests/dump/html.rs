@@ -1,7 +1,7 @@
 //! Pages of HTML.
 
 use crate::json_value::Value;
-use crate::{FUNCTION, component, corpus, dump, file, file_of, start};
+use crate::{FUNCTION, component, corpus, dump, file, start};
 use std::fs;
 use std::io::Write;
 use std::process::{Command, Stdio};
@@ -49,6 +49,20 @@ fn of_a_function() {
         [\"v\",\"ty\",\"Func\",1,\"4\",[\"i\",\"\",\"type\",1]]]";
     assert!(data.contains(shape), "{data}");
     assert!(data.contains("\"bytes\":[[0,\"AGFzbQ0AAQAHBQFAAAEACgYBAAFmAQA=\""), "{data}");
+}
+
+/// The page of README's component is in the documentation; `PAGE=write` in the environment writes it.
+#[test]
+fn of_the_documentation() {
+    let sections =
+        b"\x07\x08\x01\x40\x01\x01n\x79\x01\0\x0a\x06\x01\0\x01f\x01\0\x0b\x07\x01\0\x01g\x01\0\0";
+    let path = concat!(env!("CARGO_MANIFEST_DIR"), "/../../docs/first.html");
+    let page = start(&["--html"], &file("first.wasm", sections)).stdout;
+    if std::env::var_os("PAGE").is_some_and(|value| value == "write") {
+        fs::write(path, &page).expect("it is written");
+        panic!("{path}: written");
+    }
+    assert!(fs::read(path).expect("it is there") == page, "PAGE=write writes another");
 }
 
 #[test]
@@ -139,5 +153,4 @@ fn digests_are_those_of_the_parts() {
     }
     let len = style.len() + script.len();
     assert!(len < 0xc000, "the fixed part has {len} bytes");
-    file_of("page.html", page.as_bytes());
 }
