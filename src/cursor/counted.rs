@@ -1,12 +1,11 @@
 //! A walk that counts indices.
 
 use super::{Item, Step, Unread, Walk};
-use crate::ReadError;
 use crate::shim::vec::VecUsing;
 use crate::tree::{IndexCounts, Scopes, Space};
+use crate::{ComponentSectionId, ReadError};
 use alloc::vec::Vec;
 use core::iter::FusedIterator;
-use core::mem;
 
 /// A [`Walk`] that counts the indices that the components define.
 ///
@@ -51,8 +50,9 @@ enum Last {
     Define(Option<(Space, u32)>),
     /// It defines the component that it leaves.
     Leave,
-    /// It passes over what can't be read.
-    Pass(ReadError),
+    /// It passes over items of a section with this id, or over what may be any, also in the
+    /// components around if their sizes may be wrong.
+    Pass(Option<ComponentSectionId>, bool),
 }
 
 impl<'a> Walk<'a> {
@@ -103,23 +103,25 @@ impl<'a> CountedWalk<'a> {
     }
 
     /// Counts what the last step defines.
+    #[inline]
     fn settle(&mut self) {
         let depth = self.depth();
-        let defined = match mem::replace(&mut self.last, Last::Define(None)) {
+        let defined = match self.last {
             Last::Define(defined) => defined,
             Last::Leave => {
                 self.counts.truncate(depth + 1);
                 Some((Space::Components, 1))
             }
-            Last::Pass(error) => {
-                let from = if error.is_cut() { 0 } else { depth };
-                self.counts.iter_mut().skip(from).for_each(|counts| counts.pass(&error));
+            Last::Pass(section, is_cut) => {
+                let from = if is_cut { 0 } else { depth };
+                self.counts.iter_mut().skip(from).for_each(|counts| counts.pass(section));
                 None
             }
         };
-        if let Some(counts) = self.counts.get_mut(depth) {
+        if let (Some(_), Some(counts)) = (defined, self.counts.get_mut(depth)) {
             counts.define(defined);
         }
+        self.last = Last::Define(None);
     }
 }
 
@@ -138,7 +140,9 @@ impl<'a> Iterator for CountedWalk<'a> {
                 }
             }
             Some(Step::Leave) => self.last = Last::Leave,
-            Some(Step::Unread(unread)) => self.last = Last::Pass(unread.error),
+            Some(Step::Unread(Unread { error, .. })) => {
+                self.last = Last::Pass(error.section_id(), error.is_cut());
+            }
             Some(Step::Section(_)) | None => {}
         }
         step

@@ -89,11 +89,17 @@ impl<'a> Items<'a> {
             Ok(None) => None,
             Err(refusal) => {
                 let left = *left;
-                let (range, count) = (left.reached()..left.ends, left.left);
-                let error = self.refused(left, refusal);
-                Some(Step::Unread(Unread { error, range, count }))
+                Some(Step::Unread(self.unread(left, refusal)))
             }
         }
+    }
+
+    /// Returns what a walk passes over, after which there are no items.
+    #[cold]
+    #[inline(never)]
+    fn unread(&mut self, left: proved::SectionItems<'a>, refusal: NestedRefusal) -> Unread {
+        let (range, count) = (left.reached()..left.ends, left.left);
+        Unread { error: self.refused(left, refusal), range, count }
     }
 
     /// Returns the byte offsets and the number of the items that are left; `None` after an error.

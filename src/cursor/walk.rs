@@ -2,12 +2,13 @@
 
 use super::{Item, Items, SectionReader, Sections};
 use crate::ComponentSectionId;
-use crate::proved::wenc_list as proved;
+use crate::proved::wenc_list::{self as proved, SectionRefusal};
 use crate::read_error::{Format, ReadError};
 use crate::shim::alloc::AllocFailed;
 use crate::shim::vec::VecUsing;
 use crate::view::ItemView;
 use alloc::vec::Vec;
+use core::fmt;
 use core::iter::FusedIterator;
 use core::mem;
 use core::ops::Range;
@@ -42,19 +43,20 @@ use core::ops::Range;
 /// assert_eq!((unread.range, unread.error.to_string()), (10..21, "components more than 1 deep at 0xa".into()));
 /// # Ok::<(), ReadError>(())
 /// ```
-#[derive(Clone, Debug)]
+#[derive(Clone)]
 #[must_use = "nothing is read before it is iterated over"]
 pub struct Walk<'a> {
     bytes: &'a [u8],
     limit: usize,
-    innermost: Open,
+    /// The sections that are left of the innermost component.
+    innermost: proved::Sections<'a>,
     around: Around,
     /// The items that are left of the section before.
     items: Option<Items<'a>>,
     last: Last<'a>,
 }
 
-/// A component whose sections are read.
+/// The sections that are left of a component.
 #[derive(Clone, Copy, Debug, Default)]
 struct Open {
     /// The byte offset of its next section.
@@ -133,8 +135,8 @@ impl<'a> Walk<'a> {
     ///
     /// [`Part::Header`](crate::Part::Header) if the bytes don't begin with a component's header.
     pub fn new(bytes: &'a [u8], limit: usize) -> Result<Self, ReadError> {
-        let next = Sections::new(bytes)?.offset().unwrap_or(bytes.len());
-        let innermost = Open { next, end: bytes.len() };
+        let innermost = proved::Sections::new(bytes)
+            .map_err(|_| ReadError::header(Format::Component, 0, bytes))?;
         let around = Around { len: 0, few: [Open::default(); FEW], more: Vec::new() };
         Ok(Self { bytes, limit, innermost, around, items: None, last: Last::Nothing })
     }
@@ -150,12 +152,19 @@ impl<'a> Walk<'a> {
     /// after the items of the section that was returned last. After [`Step::Enter`] the component
     /// that it enters is the innermost one: it is left out with [`usize::MAX`].
     pub fn go_to(&mut self, offset: usize) {
-        let open = match &mut self.last {
-            Last::Enter(_, Some(_)) => return,
-            Last::Enter(open, None) => open,
-            _ => &mut self.innermost,
-        };
-        open.next = offset.min(open.end);
+        match &mut self.last {
+            Last::Enter(_, Some(_)) => {}
+            Last::Enter(open, None) => open.next = offset.min(open.end),
+            _ => {
+                let end = self.innermost.ends;
+                self.innermost = self.sections(Open { next: offset.min(end), end });
+            }
+        }
+    }
+
+    /// Returns these sections.
+    fn sections(&self, Open { next, end }: Open) -> proved::Sections<'a> {
+        proved::Sections { ends: end, rest: self.bytes.get(next..end).unwrap_or_default() }
     }
 
     /// Returns the items that aren't components, up to the first error.
@@ -174,7 +183,7 @@ impl<'a> Walk<'a> {
 
     /// Ends the walk. Returns the error.
     pub(super) fn end(&mut self, error: ReadError) -> ReadError {
-        (self.innermost, self.around.len) = (Open::default(), 0);
+        (self.innermost, self.around.len) = (self.sections(Open::default()), 0);
         (self.items, self.last) = (None, Last::Nothing);
         error
     }
@@ -207,7 +216,9 @@ impl<'a> Walk<'a> {
                 if error.is_some() {
                     open.next = open.end;
                 }
-                if self.around.push(mem::replace(&mut self.innermost, open)).is_err() {
+                let around = Open { next: self.innermost.place(), end: self.innermost.ends };
+                self.innermost = self.sections(open);
+                if self.around.push(around).is_err() {
                     error = Some(self.end(ReadError::memory()));
                 }
                 error.map(|error| Step::Unread(Unread { error, range, count: 0 }))
@@ -217,11 +228,12 @@ impl<'a> Walk<'a> {
 
     /// Passes over a section that can't be read.
     #[cold]
-    fn pass(&mut self, error: ReadError) -> Step<'a> {
-        let Open { next, end } = self.innermost;
-        let raw = Sections::within(self.bytes, next..end).and_then(|mut of| of.next_raw());
+    fn pass(&mut self, refusal: SectionRefusal<'a>) -> Step<'a> {
+        let (next, end) = (self.innermost.place(), self.innermost.ends);
+        let raw = Sections { bytes: self.bytes, left: Some(self.innermost) }.next_raw();
         let range = raw.map_or(next..end, |(range, _)| range);
-        self.innermost.next = range.end;
+        self.innermost = self.sections(Open { next: range.end, end });
+        let error = ReadError::of_section(self.bytes, end, next, refusal);
         Step::Unread(Unread { error, range, count: 0 })
     }
 
@@ -233,24 +245,22 @@ impl<'a> Walk<'a> {
                 return Some(step);
             }
         }
-        let Open { next, end } = self.innermost;
-        let rest = self.bytes.get(next..end)?;
-        let left = Some(proved::Sections { ends: end, rest });
-        match (Sections { bytes: self.bytes, left }).next() {
-            Some(Ok(section)) => {
-                self.innermost.next = section.left.ends;
-                if section.left.id == COMPONENT {
+        match self.innermost.next_or_refusal() {
+            Ok(Some(left)) => {
+                let section = SectionReader { bytes: self.bytes, left };
+                if left.id == COMPONENT {
                     self.last = Last::Section(section);
                 } else {
                     self.items = Some(section.items());
                 }
                 Some(Step::Section(section))
             }
-            Some(Err(error)) => Some(self.pass(error)),
-            None => {
-                self.innermost = self.around.pop()?;
+            Ok(None) => {
+                let around = self.around.pop()?;
+                self.innermost = self.sections(around);
                 Some(Step::Leave)
             }
+            Err(refusal) => Some(self.pass(refusal)),
         }
     }
 }
@@ -273,6 +283,15 @@ impl<'a> Iterator for Walk<'a> {
 }
 
 impl FusedIterator for Walk<'_> {}
+
+impl fmt::Debug for Walk<'_> {
+    #[inline]
+    fn fmt(&self, f: &mut fmt::Formatter<'_>) -> fmt::Result {
+        let mut shown = f.debug_struct("Walk");
+        shown.field("depth", &self.depth()).field("offset", &self.innermost.place());
+        shown.finish_non_exhaustive()
+    }
+}
 
 /// The id of a section with a nested component.
 const COMPONENT: u8 = ComponentSectionId::Component as u8;

@@ -2,9 +2,9 @@
 
 use super::shape::Tags;
 use super::{Scope, Space};
+use crate::ComponentSectionId;
 use crate::tree::Node;
 use crate::view::ItemView;
-use crate::{ComponentSectionId, ReadError};
 
 /// The number of indices that each index space of a component has before one of its items
 /// (component model, explainer, "Index Spaces"). A recursion group of core types has one for each of
@@ -64,9 +64,9 @@ impl IndexCounts {
         section.spaces().iter().for_each(|space| self.0[space.number()] = UNKNOWN);
     }
 
-    /// Adds what a [`Walk`](crate::Walk) passes over for this error.
-    pub(crate) fn pass(&mut self, error: &ReadError) {
-        match error.section_id() {
+    /// Adds what can't be read: items of a section with this id, or what may be any.
+    pub(crate) fn pass(&mut self, section: Option<ComponentSectionId>) {
+        match section {
             Some(section) => self.add_unread(section),
             None => self.add_unknown(),
         }
