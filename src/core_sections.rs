@@ -103,7 +103,10 @@ impl<'a> CoreSections<'a> {
     /// Reads the first section of what is left. Returns it and the bytes after it.
     fn first(&self) -> Result<(CoreSection<'a>, &'a [u8]), Cause> {
         let cause = |end, refusal| Cause::new(self.module, end, refusal);
-        let part = part_of(self.rest).map_err(|refusal| cause(self.module.len(), refusal));
+        let part = part_of(self.rest).map_err(|refusal| match self.rest.first() {
+            Some(&id) if SectionId::try_from(id).is_err() => Cause::core_id(self.offset(), id),
+            _ => cause(self.module.len(), refusal),
+        });
         let ((id, content), rest) = part?;
         let range = self.offset()..self.module.len() - rest.len();
         let (name, data) = if id == SectionId::Custom.into() {

@@ -74,6 +74,7 @@ use crate::shim::alloc::{AllocError, Global};
 pub use crate::shim::boxed::Box;
 #[cfg(feature = "tree")]
 pub use build::{Built, build};
+pub use encoded::Encoded;
 pub use fields::{IndexCounts, Scopes};
 #[cfg(feature = "tree")]
 pub use indices::IndexUse;

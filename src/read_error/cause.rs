@@ -1,7 +1,7 @@
 //! Why bytes can't be read, and from which byte on.
 
 use super::Found;
-use crate::Error;
+use crate::{Error, SectionId};
 use crate::proved::wenc_read::{Expected, Refusal};
 use core::fmt;
 use core::iter::FusedIterator;
@@ -100,6 +100,13 @@ impl Cause {
             (Expected::Utf8, Some(byte)) => Self::Text { place, byte },
             (_, Some(byte)) => Self::Byte { place, byte, expected: Bytes(expected.ranges()) },
         }
+    }
+
+    /// Returns that a byte isn't the id of a core module's section.
+    #[cold]
+    pub(crate) fn core_id(place: usize, byte: u8) -> Self {
+        let last = SectionId::Tag.into();
+        Self::Byte { place, byte, expected: Bytes(Expected::From(0, last).ranges()) }
     }
 
     /// Returns the cause with its byte offset increased by `by`.

@@ -6,6 +6,28 @@ use super::node::Child;
 use crate::{CoreItem, Item};
 use core::ops::Range;
 
+/// A step through the bytes of an item, as [`Item::each_encoded_part`] makes them.
+#[derive(Clone, Debug)]
+#[non_exhaustive]
+pub enum Encoded<'a> {
+    /// A value begins: the item itself, or one within the value that is open.
+    Begin {
+        /// The name of the field that it is; a number in a tuple, and empty for elements of lists and
+        /// for what options and variants have.
+        field: &'static str,
+        /// The byte offset of its first byte, also if it has none.
+        offset: usize,
+        /// The value. What the bytes of another one tell has none of its own, such as whether a
+        /// function is asynchronous.
+        node: Node<'a>,
+    },
+    /// The byte offsets of some bytes of the value that is open, apart from those of values within
+    /// it, and the value.
+    Bytes(Range<usize>, Node<'a>),
+    /// The value that is open ends.
+    End,
+}
+
 impl Item<'_> {
     /// Calls a function with each value of the item that has bytes of its own, apart from those of
     /// the values within it, and with their byte offsets: a number, an index or a string with its
@@ -35,6 +57,34 @@ impl Item<'_> {
     ) -> bool {
         each_encoded(&self.view, &self.range, bytes, &mut visit)
     }
+
+    /// Calls a function with each value of the item as it begins and ends, and with its bytes
+    /// between, in their order: the values of [`each_encoded`](Self::each_encoded) with those
+    /// around them and the names of fields. Nothing is allocated.
+    ///
+    /// `bytes` are those of the outermost component. Returns whether all bytes were told.
+    ///
+    /// ```
+    /// use wenc::tree::Encoded;
+    /// use wenc::{ReadError, Sections};
+    ///
+    /// // the type of a function, and an import of such a function
+    /// let component = b"\0asm\x0d\0\x01\0\x07\x05\x01\x40\0\x01\0\x0a\x06\x01\0\x01f\x01\0";
+    /// let item = Sections::new(component)?.items().nth(1).expect("an item")?;
+    /// let mut fields = Vec::new();
+    /// assert!(item.each_encoded_part(component, |step| {
+    ///     if let Encoded::Begin { field, offset, .. } = step {
+    ///         fields.push((field, offset));
+    ///     }
+    /// }));
+    /// // the name of the import without its options, its type, and the index of that
+    /// let [.., name, ty, index] = fields[..] else { panic!("it has fields") };
+    /// assert_eq!((name, ty, index), (("name", 19), ("ty", 21), ("", 22)));
+    /// # Ok::<(), ReadError>(())
+    /// ```
+    pub fn each_encoded_part(&self, bytes: &[u8], mut visit: impl FnMut(Encoded<'_>)) -> bool {
+        each_part(&self.view, &self.range, bytes, true, &mut visit)
+    }
 }
 
 impl CoreItem<'_> {
@@ -58,6 +108,11 @@ impl CoreItem<'_> {
     ) -> bool {
         each_encoded(&self.view, &self.range, module, &mut visit)
     }
+
+    /// Does what [`Item::each_encoded_part`] does, given the bytes of the core module.
+    pub fn each_encoded_part(&self, module: &[u8], mut visit: impl FnMut(Encoded<'_>)) -> bool {
+        each_part(&self.view, &self.range, module, true, &mut visit)
+    }
 }
 
 /// Calls a function with each value within an item that has bytes of its own, of these bytes.
@@ -67,9 +122,24 @@ fn each_encoded(
     bytes: &[u8],
     visit: &mut dyn FnMut(Range<usize>, Node<'_>),
 ) -> bool {
+    each_part(item, range, bytes, false, &mut |step| {
+        if let Encoded::Bytes(range, node) = step {
+            visit(range, node);
+        }
+    })
+}
+
+/// Calls a function with the bytes of each value, and if wanted with each value before and after.
+fn each_part(
+    item: &dyn Tree,
+    range: &Range<usize>,
+    bytes: &[u8],
+    has_values: bool,
+    visit: &mut dyn FnMut(Encoded<'_>),
+) -> bool {
     let Some(bytes) = bytes.get(..range.end) else { return false };
-    let mut places = Places { bytes, at: range.start, visit, is_wrong: false };
-    places.value(Child::new(item, Place::default()));
+    let mut places = Places { bytes, at: range.start, visit, has_values, is_only: false, is_wrong: false };
+    places.value("", Child::new(item, Place::default()));
     !places.is_wrong && places.at == bytes.len()
 }
 
@@ -78,7 +148,11 @@ struct Places<'v> {
     bytes: &'v [u8],
     /// The byte offset of the next value.
     at: usize,
-    visit: &'v mut dyn FnMut(Range<usize>, Node<'_>),
+    visit: &'v mut dyn FnMut(Encoded<'_>),
+    /// Whether it is called with values, too.
+    has_values: bool,
+    /// Whether the next value is what an option or a variant has.
+    is_only: bool,
     is_wrong: bool,
 }
 
@@ -88,7 +162,7 @@ impl Places<'_> {
         let end = self.at.saturating_add(len);
         self.is_wrong |= end > self.bytes.len();
         if !self.is_wrong && len > 0 {
-            (self.visit)(self.at..end, node);
+            (self.visit)(Encoded::Bytes(self.at..end, node));
             self.at = end;
         }
     }
@@ -137,17 +211,30 @@ impl Places<'_> {
             Node::Flag(_) => self.own(1, node),
             Node::List(list) => {
                 self.number(u64::try_from(list.len()).ok(), node);
-                list.for_each(|child| self.value(child));
+                list.for_each(|child| self.value("", child));
             }
             _ => self.is_wrong = true,
         }
     }
 
-    /// Takes a value with those within it.
-    fn value(&mut self, value: Child<'_>) {
+    /// Takes a value, which is the field of this name.
+    fn value(&mut self, field: &'static str, value: Child<'_>) {
         if self.is_wrong {
             return;
         }
+        if !self.has_values {
+            return self.within(value);
+        }
+        let (field, node) = (if self.is_only { "" } else { field }, value.node());
+        self.is_only = matches!(node, Node::Present(_) | Node::Variant(..));
+        (self.visit)(Encoded::Begin { field, offset: self.at, node });
+        self.within(value);
+        (self.visit)(Encoded::End);
+        self.is_only = false;
+    }
+
+    /// Takes the bytes of a value, with the values within it.
+    fn within(&mut self, value: Child<'_>) {
         let (layout, fields) = match value.layout() {
             Ok(laid_out) => laid_out,
             Err(node) => return self.leaf(node, value.tags()),
@@ -155,9 +242,12 @@ impl Places<'_> {
         match layout {
             Layout::Tag(len) => {
                 self.tag(len, value);
-                fields.into_iter().flatten().for_each(|(_, child)| self.value(child));
+                fields.into_iter().flatten().for_each(|(name, child)| self.value(name, child));
             }
             Layout::Parts(parts) => {
+                self.implied(&fields, |number| {
+                    !parts.iter().any(|part| matches!(part, Part::Field(of) if *of == number))
+                });
                 for part in parts {
                     match *part {
                         Part::Own(len) => self.tag(len, value),
@@ -175,6 +265,8 @@ impl Places<'_> {
                 // a reference to an abstract type may be written as one byte
                 if matches!(self.byte(), 0x63 | 0x64) {
                     self.field(&fields, 0);
+                } else {
+                    self.implied(&fields, |number| number == 0);
                 }
                 self.field(&fields, 1);
             }
@@ -184,8 +276,20 @@ impl Places<'_> {
     /// Takes the field with this number.
     fn field(&mut self, fields: &Named<'_>, number: usize) {
         match fields.get(number) {
-            Some(Some((_, child))) => self.value(*child),
+            Some(Some((name, child))) => self.value(name, *child),
             _ => self.is_wrong = true,
+        }
+    }
+
+    /// Takes the flags and words among some fields, which bytes of the value itself tell.
+    fn implied(&mut self, fields: &Named<'_>, is_implied: impl Fn(usize) -> bool) {
+        let wanted = fields.iter().enumerate().filter(|(at, _)| self.has_values && is_implied(*at));
+        for (field, child) in wanted.filter_map(|(_, field)| *field) {
+            let node = child.node();
+            if matches!(node, Node::Flag(_) | Node::Word(_)) {
+                (self.visit)(Encoded::Begin { field, offset: self.at, node });
+                (self.visit)(Encoded::End);
+            }
         }
     }
 
@@ -215,6 +319,8 @@ impl Places<'_> {
             self.field(fields, 0);
             self.number(None, value.node());
             self.field(fields, 1);
+        } else {
+            self.implied(fields, |number| number == 0);
         }
         self.field(fields, 2);
     }

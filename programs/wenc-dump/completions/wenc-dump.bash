@@ -18,11 +18,13 @@ _wenc_dump() {
                 data data-count tag"
             ;;
         --color) words="always auto never" ;;
-        --width) words="" ;;
+        --width | --at) words="" ;;
+        -o | --output) return 0 ;;
         *)
             # other words are files
             [[ $word == -* ]] || return 0
-            words="-x --hex --check --wit --section= --json --color= --width= -h --help -V --version"
+            words="-x --hex --check --section= --summary --at= --wit --html --json --compact"
+            words="-o --output= --color= --width= -h --help -V --version $words"
             ;;
     esac
     compopt +o default +o bashdefault

@@ -31,6 +31,8 @@ pub enum Kind {
     UnknownSection(u8),
     /// A section with a wrong size.
     Size(WrongSize),
+    /// A byte offset that a file with so many bytes doesn't have.
+    Beyond(usize, usize),
     /// This many indices that are out of range.
     OutOfRange(usize),
     /// A part of a component's world that isn't written as WIT.
@@ -104,6 +106,16 @@ impl Fault {
         }
     }
 
+    /// Returns what is expected instead of the byte that is wrong, if it is one of few.
+    pub fn expected(&self) -> Option<String> {
+        match self.kind {
+            Kind::Read(ReadError { cause: Cause::Byte { expected, .. }, .. }) => {
+                Some(expected.to_string())
+            }
+            _ => None,
+        }
+    }
+
     /// Returns the exit status of the program.
     pub fn status(&self) -> u8 {
         match self.kind {
@@ -128,6 +140,9 @@ impl Display for Fault {
                 let by = Counted(stated.abs_diff(end), "byte");
                 let longer = if end > stated { "longer" } else { "shorter" };
                 write!(f, "the section at {place:#x} may be {by} {longer}")
+            }
+            Kind::Beyond(offset, len) => {
+                write!(f, "no byte at {offset:#x}, the file has {}", Counted(len, "byte"))
             }
             Kind::OutOfRange(1) => f.write_str("1 index is out of range"),
             Kind::OutOfRange(count) => write!(f, "{count} indices are out of range"),

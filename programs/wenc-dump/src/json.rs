@@ -6,10 +6,13 @@ use super::walk::DEPTH;
 use std::ffi::OsStr;
 use std::fmt::{self, Display, Write as _};
 use std::io::{self, Write};
+use std::mem;
 use std::ops::Range;
-use std::path::Path;
 use wenc::Producer;
 use wenc::tree::{Child, Fields, Node, Scope, UsedIndex};
+
+/// The version of the format: it rises when what reads an earlier one may fail.
+const VERSION: u32 = 1;
 
 /// The maximum number of open parts: the file, a section and an item for each component that is
 /// nested in it and for a module, and a section and an item of that module.
@@ -19,6 +22,8 @@ const PARTS: usize = 1 + 2 * (DEPTH + 1) + 2;
 pub struct Json<'o> {
     out: &'o mut dyn Write,
     has_bytes: bool,
+    /// Whether fields that are null are left out.
+    is_compact: bool,
     /// The open parts.
     open: Vec<Open>,
     /// Whether the open list is still empty.
@@ -37,12 +42,26 @@ struct Open {
 }
 
 /// A string within quotes.
-struct Quoted<T>(T);
+pub(super) struct Quoted<T>(pub T);
 
 impl<T: Display> Display for Quoted<T> {
     fn fmt(&self, f: &mut fmt::Formatter<'_>) -> fmt::Result {
         f.write_str("\"")?;
         write!(Letters(f), "{}", self.0)?;
+        f.write_str("\"")
+    }
+}
+
+/// The name of a file within quotes: a byte that isn't UTF-8 is a surrogate, U+DC00 and the byte.
+struct FileName<'a>(&'a OsStr);
+
+impl Display for FileName<'_> {
+    fn fmt(&self, f: &mut fmt::Formatter<'_>) -> fmt::Result {
+        f.write_str("\"")?;
+        for chunk in self.0.as_encoded_bytes().utf8_chunks() {
+            Letters(f).write_str(chunk.valid())?;
+            chunk.invalid().iter().try_for_each(|byte| write!(f, "\\udc{byte:02x}"))?;
+        }
         f.write_str("\"")
     }
 }
@@ -74,9 +93,9 @@ impl fmt::Write for Letters<'_, '_> {
 }
 
 impl<'o> Json<'o> {
-    /// Creates a writer of JSON, with or without the bytes of items.
-    pub fn new(out: &'o mut dyn Write, has_bytes: bool) -> Self {
-        Self { out, has_bytes, open: Vec::with_capacity(PARTS), is_first: true }
+    /// Creates a writer of JSON, with or without the bytes of items, and fields that are null.
+    pub fn new(out: &'o mut dyn Write, has_bytes: bool, is_compact: bool) -> Self {
+        Self { out, has_bytes, is_compact, open: Vec::with_capacity(PARTS), is_first: true }
     }
 
     fn put(&mut self, text: &str) -> io::Result<()> {
@@ -85,6 +104,9 @@ impl<'o> Json<'o> {
 
     /// Writes a key, after a comma or a brace in `lead`, and its value or null.
     fn field(&mut self, lead: &str, key: &str, value: Option<impl Display>) -> io::Result<()> {
+        if value.is_none() && self.is_compact && lead == "," {
+            return Ok(());
+        }
         write!(self.out, "{lead}\"{key}\":")?;
         match value {
             Some(value) => write!(self.out, "{value}"),
@@ -107,6 +129,9 @@ impl<'o> Json<'o> {
 
     fn label(&mut self, label: Option<&Label>) -> io::Result<()> {
         let Some(Label { space, from, count, name }) = label else {
+            if self.is_compact {
+                return Ok(());
+            }
             return self.put(",\"space\":null,\"index\":null,\"count\":0,\"name\":null");
         };
         self.field(",", "space", Some(Quoted(space)))?;
@@ -236,8 +261,12 @@ impl<'o> Json<'o> {
         fields: impl IntoIterator<Item = (&'static str, Child<'a>)>,
     ) -> io::Result<()> {
         self.put("{")?;
-        for (at, (key, part)) in fields.into_iter().enumerate() {
-            self.put(if at == 0 { "\"" } else { ",\"" })?;
+        let mut lead = "\"";
+        for (key, part) in fields {
+            if self.is_compact && matches!(part.node(), Node::Absent) {
+                continue;
+            }
+            self.put(mem::replace(&mut lead, ",\""))?;
             self.put(key)?;
             self.put("\":")?;
             self.child(part)?;
@@ -296,7 +325,7 @@ impl<'o> Json<'o> {
                 self.put(if is_module { ",\"module\":" } else { ",\"component\":" })?;
                 self.content(range, content)
             }
-            Part::Section { range, id, word, count, core } => {
+            Part::Section { range, id, word, count, core, .. } => {
                 self.member(range)?;
                 self.field(",", "id", Some(id))?;
                 self.field(",", "kind", word.map(Quoted))?;
@@ -311,7 +340,7 @@ impl<'o> Json<'o> {
                 self.entry(entry)?;
                 Ok(Open { list: Some(""), has_unread: false, object: "}" })
             }
-            Part::Item { range, label, content, bytes } => {
+            Part::Item { range, label, content, bytes, .. } => {
                 self.member(range)?;
                 self.label(label.as_ref())?;
                 self.bytes("hex", bytes)?;
@@ -325,7 +354,8 @@ impl<'o> Json<'o> {
 
 impl Report for Json<'_> {
     fn begin(&mut self, file: &OsStr) -> io::Result<()> {
-        self.field("{", "file", Some(Quoted(Path::new(file).display())))
+        self.field("{", "version", Some(VERSION))?;
+        self.field(",", "file", Some(FileName(file)))
     }
 
     fn open(&mut self, part: &Part) -> io::Result<()> {
@@ -369,7 +399,7 @@ impl Report for Json<'_> {
         };
         if let Some(list) = list {
             self.put(list)?;
-            self.put(if has_unread { ",\"unread\":null" } else { "" })?;
+            self.put(if has_unread && !self.is_compact { ",\"unread\":null" } else { "" })?;
         }
         self.is_first = false;
         self.put(object)

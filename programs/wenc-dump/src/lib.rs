@@ -3,6 +3,7 @@
 #![forbid(unsafe_code)]
 
 mod arguments;
+mod at;
 mod buffer;
 mod check;
 mod colours;
@@ -10,7 +11,9 @@ mod custom;
 mod escape;
 mod fault;
 mod fold;
+mod html;
 mod json;
+mod leaf;
 mod modules;
 mod phrase;
 mod report;

@@ -1,9 +1,11 @@
 //! The program `wenc-dump`, which prints what components and core modules contain.
 
 use std::env;
+use std::fs::File;
 use std::hint::black_box;
 use std::io::{self, BufWriter, IsTerminal};
-use std::process::ExitCode;
+use std::process::{Command, ExitCode, Stdio};
+use std::str;
 use wenc_dump::{NO_MEMORY, Streams, Terminal, colours_are_wanted, run};
 
 /// The number of bytes of stack that suffices for nested components and types. Frames of code that
@@ -31,6 +33,18 @@ fn grow_stack() {
     black_box([0_u8; STACK]);
 }
 
+/// Returns the number of columns of the terminal: that of the environment, or the terminal's own.
+fn columns() -> Option<usize> {
+    let stated = env::var("COLUMNS").ok().and_then(|text| text.parse().ok());
+    stated.or_else(|| {
+        let mut command = Command::new("stty");
+        let command = command.arg("size").stdin(File::open("/dev/tty").ok()?);
+        let output = command.stderr(Stdio::null()).output().ok()?;
+        let columns = str::from_utf8(&output.stdout).ok()?.split_whitespace().nth(1)?;
+        columns.parse().ok().filter(|columns| *columns > 0)
+    })
+}
+
 fn main() -> ExitCode {
     if !has_stack() {
         eprintln!("wenc-dump: memory ran out");
@@ -39,8 +53,8 @@ fn main() -> ExitCode {
     let out = io::stdout();
     let (no_color, term) = (env::var_os("NO_COLOR"), env::var_os("TERM"));
     let has_colours = colours_are_wanted(out.is_terminal(), no_color.as_deref(), term.as_deref());
-    let columns = env::var("COLUMNS").ok().filter(|_| out.is_terminal());
-    let terminal = Terminal { has_colours, columns: columns.and_then(|text| text.parse().ok()) };
+    let columns = if out.is_terminal() { columns() } else { None };
+    let terminal = Terminal { has_colours, columns };
     let mut streams = Streams {
         input: &mut io::stdin(),
         out: &mut BufWriter::new(out.lock()),

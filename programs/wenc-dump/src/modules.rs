@@ -2,7 +2,7 @@
 
 use super::fault::{Fault, Kind};
 use super::phrase;
-use super::report::{Content, Contents, Core, Part};
+use super::report::{Content, Contents, Core, Part, Source};
 use super::walk::{Walk, label};
 use super::words;
 use std::io;
@@ -77,6 +77,7 @@ impl Walk<'_, '_> {
         self.report.open(&Part::Section {
             range: range.clone(),
             id: section.id,
+            content: at + section.range.end - section.data.len(),
             word: words::core_section(section.id),
             count: section.count(),
             core: Some(Core { name: section.name, contents, bytes }),
@@ -108,15 +109,17 @@ impl Walk<'_, '_> {
         &mut self,
         at: usize,
         section: &CoreSection,
-        CoreItem { range, view, .. }: &CoreItem,
+        item: &CoreItem,
         counts: &mut IndexCounts,
     ) -> io::Result<()> {
+        let CoreItem { range, view, .. } = item;
         let data_start = section.range.end - section.data.len();
         self.report.open(&Part::Item {
             range: at + range.start..at + range.end,
             label: space(view).map(|space| label(counts, space, 1, None)),
             content: Content::Node(&phrase::of_item(view.node()), &[]),
             bytes: &section.data[range.start - data_start..range.end - data_start],
+            item: Source::Core(item, at),
         })?;
         counts.define(space(view).map(|space| (space, 1)));
         self.report.close()

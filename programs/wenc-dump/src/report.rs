@@ -5,8 +5,8 @@ use super::fold::Names;
 use std::ffi::OsStr;
 use std::io;
 use std::ops::Range;
-use wenc::Producer;
-use wenc::tree::{Node, Space, UsedIndex};
+use wenc::tree::{Encoded, Node, Space, UsedIndex};
+use wenc::{CoreItem, Item, Producer};
 
 /// A format of reports.
 pub trait Report {
@@ -55,6 +55,8 @@ pub enum Part<'a> {
         word: Option<&'static str>,
         /// The number of its items; `None` if it isn't a section of items, or that can't be read.
         count: Option<u32>,
+        /// The byte offset of its content, after its size.
+        content: usize,
         /// The fields of a section of a core module.
         core: Option<Core<'a>>,
     },
@@ -65,9 +67,39 @@ pub enum Part<'a> {
         content: Content<'a>,
         /// Its bytes; empty if parts of it are reported.
         bytes: &'a [u8],
+        /// The item itself.
+        item: Source<'a>,
     },
     /// A part of a custom section.
     Entry(Entry<'a>),
+}
+
+/// An item as it is read.
+#[derive(Clone, Copy)]
+pub enum Source<'a> {
+    Component(&'a Item<'a>),
+    /// One of the core module that begins at this byte offset.
+    Core(&'a CoreItem<'a>, usize),
+}
+
+impl Source<'_> {
+    /// Calls a function with the values of the item, whose byte offsets are those of the file.
+    pub fn each_part(self, file: &[u8], visit: &mut dyn FnMut(Encoded)) -> bool {
+        match self {
+            Self::Component(item) => item.each_encoded_part(file, visit),
+            Self::Core(item, at) => item.each_encoded_part(&file[at..], |step| {
+                visit(match step {
+                    Encoded::Begin { field, offset, node } => {
+                        Encoded::Begin { field, offset: at + offset, node }
+                    }
+                    Encoded::Bytes(range, node) => {
+                        Encoded::Bytes(at + range.start..at + range.end, node)
+                    }
+                    step => step,
+                });
+            }),
+        }
+    }
 }
 
 /// The part of a section of a core module that isn't in its items.

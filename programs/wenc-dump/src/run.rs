@@ -1,9 +1,11 @@
 //! Runs the program.
 
 use super::arguments::{HELP, Options, Request, USAGE, request};
+use super::at::At;
 use super::buffer::Buffer;
 use super::escape::Escaped;
 use super::fault::{Fault, Kind};
+use super::html::{self, Data, Front};
 use super::json::Json;
 use super::report::Report;
 use super::select::Selected;
@@ -13,9 +15,10 @@ use super::wit;
 use std::ffi::{OsStr, OsString};
 use std::fmt::{self, Write as _};
 use std::fs;
-use std::io::{self, Read, Write};
-use wenc::Part;
+use std::io::{self, BufWriter, Read, Write};
+use std::path::Path;
 use wenc::scope::Definitions;
+use wenc::{CoreSections, Part};
 
 /// The streams that the program reads and writes.
 pub struct Streams<'s> {
@@ -44,13 +47,19 @@ pub fn run(
     terminal: Terminal,
     streams: &mut Streams,
 ) -> u8 {
-    let mut status = 0;
+    let (mut status, mut has_file) = (0, false);
     let done = match request(arguments_with_name.skip(1)) {
         Ok(Request::Help) => print(streams.out, &format!("{USAGE}{HELP}")),
         Ok(Request::Version) => {
             print(streams.out, concat!("wenc-dump ", env!("CARGO_PKG_VERSION"), "\n"))
         }
-        Ok(Request::Dump(options)) => dump(&options, terminal, streams, &mut status),
+        Ok(Request::Dump(options)) => match &options.output {
+            None => dump(&options, terminal, streams, &mut status),
+            Some(file) => {
+                has_file = true;
+                to_file(file, streams, |streams| dump(&options, terminal, streams, &mut status))
+            }
+        },
         Err(why) => {
             complain(streams.err, format_args!("wenc-dump: {why}\n{USAGE}"));
             return 2;
@@ -58,11 +67,25 @@ pub fn run(
     };
     match done {
         Err(error) if error.kind() != io::ErrorKind::BrokenPipe => {
-            complain(streams.err, format_args!("wenc-dump: standard output: {error}\n"));
+            let place = if has_file { "" } else { "standard output: " };
+            complain(streams.err, format_args!("wenc-dump: {place}{error}\n"));
             status.max(1)
         }
         _ => status,
     }
+}
+
+/// Writes to a file instead of standard output, and reports why it can't be written.
+fn to_file(
+    file: &OsStr,
+    streams: &mut Streams,
+    write: impl FnOnce(&mut Streams) -> io::Result<()>,
+) -> io::Result<()> {
+    let done = fs::File::create(file).and_then(|created| {
+        let (input, err) = (&mut *streams.input, &mut *streams.err);
+        write(&mut Streams { input, out: &mut BufWriter::new(created), err })
+    });
+    done.map_err(|error| io::Error::new(error.kind(), format!("{}: {error}", Escaped(file))))
 }
 
 fn print(out: &mut dyn Write, text: &str) -> io::Result<()> {
@@ -82,6 +105,9 @@ fn dump(
     streams: &mut Streams,
     status: &mut u8,
 ) -> io::Result<()> {
+    if options.html {
+        return page(options, streams, status);
+    }
     for file in &options.files {
         let name = Escaped(file);
         // messages that are written after the line of JSON that they would interrupt
@@ -89,20 +115,24 @@ fn dump(
         let on_fault = &mut |fault: &Fault| {
             *status = fault.status().max(*status);
             let len = kept.0.len();
-            if !options.json || writeln!(kept, "{name}: {fault}").is_err() {
+            if !options.json || writeln!(kept, "wenc-dump: {name}: {fault}").is_err() {
                 kept.0.truncate(len);
-                complain(streams.err, format_args!("{name}: {fault}\n"));
+                complain(streams.err, format_args!("wenc-dump: {name}: {fault}\n"));
             }
         };
         let done = if options.wit {
             world(streams.out, file, streams.input, on_fault)
+        } else if let Some(offset) = options.at {
+            let text = Text::new(streams.out, Style::of(options, terminal));
+            at(text, offset, file, streams.input, on_fault)
         } else {
+            let mut text = Text::new(streams.out, Style::of(options, terminal));
             let format: &mut dyn Report = if options.json {
-                &mut Json::new(streams.out, options.hex)
+                &mut Json::new(streams.out, options.hex, options.compact)
             } else {
-                &mut Text::new(streams.out, Style::of(options, terminal))
+                &mut text
             };
-            let mut selected = Selected::new(format, &options.sections);
+            let mut selected = Selected::new(format, &options.sections, !options.summary);
             report(&mut selected, (file, options.check), streams.input, on_fault)
         };
         if !kept.0.is_empty() {
@@ -116,12 +146,85 @@ fn dump(
 impl Style {
     fn of(options: &Options, terminal: Terminal) -> Self {
         Self {
-            has_colours: options.colours.unwrap_or(terminal.has_colours),
+            has_colours: options
+                .colours
+                .unwrap_or(terminal.has_colours && options.output.is_none()),
             has_bytes: options.hex,
             has_titles: options.files.len() > 1,
-            columns: options.columns.or(terminal.columns).unwrap_or(COLUMNS),
+            columns: options
+                .columns
+                .or(terminal.columns.filter(|_| options.output.is_none()))
+                .unwrap_or(COLUMNS),
         }
     }
+}
+
+/// Prints files as a page of HTML, and raises the exit status to that of the worst fault.
+fn page(options: &Options, streams: &mut Streams, status: &mut u8) -> io::Result<()> {
+    let Streams { input, out, err } = streams;
+    let mut tell = |file: &OsStr, fault: &Fault| {
+        *status = fault.status().max(*status);
+        complain(*err, format_args!("wenc-dump: {}: {fault}\n", Escaped(file)));
+    };
+    let mut files = Vec::new();
+    for file in &options.files {
+        match bytes_of(file, *input) {
+            Ok(bytes) => files.push((file, bytes)),
+            Err(error) => tell(file, &Fault::of_input(error)),
+        }
+    }
+    if files.len() < options.files.len() {
+        return Ok(());
+    }
+    // a path may tell more than its reader wants to
+    let name = |file| Path::new(Path::new(file).file_name().unwrap_or(file)).display().to_string();
+    let names: Vec<String> = files.iter().map(|(file, _)| name(file)).collect();
+    let (name, mut text) = (names.join(", "), Front::default());
+    let style = Style { has_titles: files.len() > 1, columns: usize::MAX, ..Style::default() };
+    html::begin(*out, &name)?;
+    for (at, ((file, bytes), name)) in files.iter().zip(&names).enumerate() {
+        out.write_all(if at == 0 { b"" } else { b"," })?;
+        let text = Text::new(&mut text, style);
+        let print = |data: Data, world: &str| data.print(*out, name, world);
+        match data((file, bytes), text, &mut |fault| tell(file, fault), print) {
+            Err(error) if error.kind() == io::ErrorKind::OutOfMemory => {
+                tell(file, &Kind::NoMemory.into());
+                out.write_all(b"null")?;
+            }
+            done => done?,
+        }
+    }
+    html::end(*out, &name, &text)?;
+    out.flush()
+}
+
+/// Collects the data of a file, and passes it on; calls `on_fault` with each fault.
+fn data(
+    (file, bytes): (&OsStr, &[u8]),
+    text: Text,
+    on_fault: &mut dyn FnMut(&Fault),
+    print: impl FnOnce(Data, &str) -> io::Result<()>,
+) -> io::Result<()> {
+    let mut is_whole = true;
+    let definitions =
+        Definitions::past_faults(bytes, DEPTH, |error| is_whole &= !error.is_memory());
+    let instances = definitions.instances();
+    if !is_whole {
+        return Err(io::ErrorKind::OutOfMemory.into());
+    }
+    let (mut data, mut faults) = (Data::new(bytes, &instances, text)?, Vec::new());
+    data.begin(file)?;
+    walk(bytes, true, &mut data, &mut |fault| faults.push(fault))?;
+    for fault in &faults {
+        on_fault(fault);
+        data.fault(fault)?;
+    }
+    // without a world it isn't a component
+    let mut world = Vec::new();
+    if CoreSections::new(bytes).is_err() && bytes.len() >= 8 {
+        wit::print(&mut world, &definitions, bytes.len(), &mut |_| {})?;
+    }
+    print(data, &String::from_utf8_lossy(&world))
 }
 
 /// Returns the bytes of a file.
@@ -154,6 +257,31 @@ fn world(
         on_fault(&error.into());
     });
     if is_component { wit::print(out, &definitions, bytes.len(), on_fault) } else { Ok(()) }
+}
+
+/// Says what the byte at this offset is, and calls `on_fault` with each fault.
+fn at(
+    text: Text,
+    offset: usize,
+    file: &OsStr,
+    input: &mut dyn Read,
+    on_fault: &mut dyn FnMut(&Fault),
+) -> io::Result<()> {
+    let bytes = match bytes_of(file, input) {
+        Ok(bytes) if offset < bytes.len() => bytes,
+        Ok(bytes) => {
+            on_fault(&Kind::Beyond(offset, bytes.len()).into());
+            return Ok(());
+        }
+        Err(error) => {
+            on_fault(&Fault::of_input(error));
+            return Ok(());
+        }
+    };
+    let mut at = At::new(text, &bytes, offset);
+    at.begin(file)?;
+    walk(&bytes, false, &mut at, &mut |fault| on_fault(&fault))?;
+    at.flush()
 }
 
 /// Reports a file, with indices out of range if `has_check`, and calls `on_fault` with each fault.

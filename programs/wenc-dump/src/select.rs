@@ -1,10 +1,10 @@
 //! Reports of some sections only.
 
 use super::fault::Fault;
-use super::report::{Part, Report, Rest};
+use super::report::{Content, Part, Report, Rest};
 use super::words;
 use std::ffi::OsStr;
-use std::{io, mem};
+use std::io;
 use wenc::tree::UsedIndex;
 
 /// A kind of sections, by its word, which components and core modules may share, or by its id.
@@ -48,25 +48,38 @@ impl Kind {
     }
 }
 
-/// A report of those sections of the file that are of these kinds; of all if there are no kinds.
+/// A report of a part of a file.
 pub struct Selected<'r> {
     report: &'r mut dyn Report,
+    /// The kinds of those sections of the file that are in it; all if there are none.
     kinds: &'r [Kind],
-    /// The number of open parts.
-    depth: usize,
-    /// Whether the open section of the file is left out.
-    is_left_out: bool,
+    has_items: bool,
+    /// The number of open parts, and of those that are left out.
+    depth: (usize, usize),
 }
 
 impl<'r> Selected<'r> {
-    /// Creates a report of sections of these kinds.
-    pub fn new(report: &'r mut dyn Report, kinds: &'r [Kind]) -> Self {
-        Self { report, kinds, depth: 0, is_left_out: false }
+    /// Creates a report of sections of these kinds, with their items or without those that have no
+    /// sections.
+    pub fn new(report: &'r mut dyn Report, kinds: &'r [Kind], has_items: bool) -> Self {
+        Self { report, kinds, has_items, depth: (0, 0) }
     }
 
-    /// Passes a call on, unless the open section is left out.
+    /// Passes a call on, unless the innermost open part is left out.
     fn pass(&mut self, to: impl FnOnce(&mut dyn Report) -> io::Result<()>) -> io::Result<()> {
-        if self.is_left_out { Ok(()) } else { to(self.report) }
+        if self.depth.1 > 0 { Ok(()) } else { to(self.report) }
+    }
+
+    /// Returns whether a part is left out.
+    fn is_left_out(&self, part: &Part) -> bool {
+        match part {
+            Part::Section { id, word, .. } if self.depth.0 == 1 && !self.kinds.is_empty() => {
+                !self.kinds.iter().any(|kind| kind.has(*id, *word))
+            }
+            Part::Item { content: Content::Node(..) | Content::Custom(..), .. }
+            | Part::Entry(_) => !self.has_items,
+            _ => false,
+        }
     }
 }
 
@@ -76,11 +89,8 @@ impl Report for Selected<'_> {
     }
 
     fn open(&mut self, part: &Part) -> io::Result<()> {
-        if let (1, Part::Section { id, word, .. }) = (self.depth, part) {
-            let is_selected = self.kinds.iter().any(|kind| kind.has(*id, *word));
-            self.is_left_out = !self.kinds.is_empty() && !is_selected;
-        }
-        self.depth += 1;
+        self.depth.1 += usize::from(self.depth.1 > 0 || self.is_left_out(part));
+        self.depth.0 += 1;
         self.pass(|report| report.open(part))
     }
 
@@ -97,11 +107,9 @@ impl Report for Selected<'_> {
     }
 
     fn close(&mut self) -> io::Result<()> {
-        self.depth -= 1;
-        if self.depth == 1 && mem::take(&mut self.is_left_out) {
-            return Ok(());
-        }
-        self.pass(|report| report.close())
+        let is_left_out = self.depth.1 > 0;
+        self.depth = (self.depth.0 - 1, self.depth.1.saturating_sub(1));
+        if is_left_out { Ok(()) } else { self.report.close() }
     }
 
     fn end(&mut self, fault: Option<&Fault>) -> io::Result<()> {

@@ -185,6 +185,14 @@ impl<'o> Text<'o> {
         }
     }
 
+    /// Writes a line within the innermost open part, after a byte offset.
+    pub(super) fn line_of(&mut self, place: usize, text: impl Display) -> io::Result<()> {
+        self.begin_line(self.depth)?;
+        self.place(place)?;
+        write!(self, "{text}")?;
+        self.end_line()
+    }
+
     /// Writes lines of bytes, from this byte offset on, and whether bytes after them are left out.
     fn bytes(&mut self, mut place: usize, bytes: &[u8], has_more: bool) -> io::Result<()> {
         for some in bytes.chunks(BYTES) {
@@ -205,7 +213,7 @@ impl<'o> Text<'o> {
                 self.file(range, content)?;
                 Ok((0, &[]))
             }
-            Part::Section { range, id, word, count, core } => {
+            Part::Section { range, id, word, count, core, .. } => {
                 self.place(range)?;
                 match word {
                     Some(word) => write!(self, "{word} section")?,
@@ -220,7 +228,7 @@ impl<'o> Text<'o> {
                 let bytes = core.as_ref().map_or(&[][..], |core| core.bytes);
                 Ok((range.end - bytes.len(), bytes))
             }
-            Part::Item { range, label, content, bytes } => {
+            Part::Item { range, label, content, bytes, .. } => {
                 self.item(range, label.as_ref(), content)?;
                 Ok((range.start, bytes))
             }
@@ -268,10 +276,7 @@ impl Report for Text<'_> {
     }
 
     fn out_of_range(&mut self, place: usize, index: &UsedIndex) -> io::Result<()> {
-        self.begin_line(self.depth)?;
-        self.place(place)?;
-        write!(self, "{}", OutOfRange(index))?;
-        self.end_line()
+        self.line_of(place, OutOfRange(index))
     }
 
     fn flush(&mut self) -> io::Result<()> {

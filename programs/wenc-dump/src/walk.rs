@@ -2,7 +2,7 @@
 
 use super::fault::{Fault, Kind};
 use super::phrase;
-use super::report::{Content, Contents, Label, Part, Report, Rest};
+use super::report::{Content, Contents, Label, Part, Report, Rest, Source};
 use super::sizes::{WrongSize, wrong_size};
 use super::words;
 use std::io;
@@ -10,7 +10,8 @@ use std::ops::Range;
 use wenc::tree::{IndexCounts, Space};
 use wenc::view::ItemView;
 use wenc::{
-    CoreSections, CountedWalk as Steps, DebugNames, Item, Part as Unreadable, Step, Unread,
+    CoreSections, CountedWalk as Steps, DebugNames, Item, Part as Unreadable, Sections, Step,
+    Unread,
 };
 
 /// The maximum number of components around one, as of types.
@@ -174,7 +175,11 @@ impl<'f> Walk<'f, '_> {
 
     fn open_section(&mut self, range: Range<usize>, id: u8, count: Option<u32>) -> io::Result<()> {
         self.levels.iter_mut().last().into_iter().for_each(|level| level.has_open_section = true);
-        self.report.open(&Part::Section { range, id, word: words::section(id), count, core: None })
+        let raw =
+            Sections::at(self.bytes, range.start).and_then(|mut sections| sections.next_raw());
+        let content = raw.map_or(range.end, |(range, raw)| range.end - raw.data.len());
+        let (word, core) = (words::section(id), None);
+        self.report.open(&Part::Section { range, id, word, content, count, core })
     }
 
     fn end_section(&mut self) -> io::Result<()> {
@@ -210,7 +215,13 @@ impl<'f> Walk<'f, '_> {
         let (own, range) = (names_of(bytes)?, item.range.clone());
         let label = Some(label(steps.counts(), Space::Components, 1, self.names.last()));
         let content = Content::Component(own.component());
-        self.report.open(&Part::Item { range, label, content, bytes: &[] })?;
+        self.report.open(&Part::Item {
+            range,
+            label,
+            content,
+            bytes: &[],
+            item: Source::Component(item),
+        })?;
         self.begin(own, item.range.end)
     }
 
@@ -242,11 +253,13 @@ impl<'f> Walk<'f, '_> {
             }
             _ => (Content::Node(&node, &self.names), bytes),
         };
-        self.report.open(&Part::Item { range: range.clone(), label, content, bytes: shown })?;
+        let part =
+            Part::Item { range, label, content, bytes: shown, item: Source::Component(item) };
+        self.report.open(&part)?;
         self.check_item(item, steps)?;
         match view {
-            ItemView::Module(_) => self.module(range.start, bytes)?,
-            ItemView::Custom { .. } => self.custom(view, range.end)?,
+            ItemView::Module(bytes) => self.module(item.range.start, bytes)?,
+            ItemView::Custom { .. } => self.custom(view, item.range.end)?,
             _ => {}
         }
         self.report.close()

@@ -219,7 +219,11 @@ fn kinds_of_damage_are_told_apart() {
     let rows = ITEMS.map(|row| (item, row)).into_iter().chain(KINDS.map(|row| ("", row)));
     for (front, (sections, expected)) in rows {
         let (status, _, err) = dump(&[], &file_of(sections));
-        assert_eq!((err, status), (format!("-: {front}{expected}\n"), 1), "{sections:02x?}");
+        assert_eq!(
+            (err, status),
+            (format!("wenc-dump: -: {front}{expected}\n"), 1),
+            "{sections:02x?}"
+        );
     }
 }
 

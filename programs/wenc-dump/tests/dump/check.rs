@@ -59,7 +59,7 @@ fn indices_out_of_range_are_marked() {
 fn one_index_and_none() {
     let import = b"\x0a\x06\x01\0\x01g\x01\x01";
     let (status, _, err) = dump(&["--check"], &component(&[FUNCTION, import].concat()));
-    assert_eq!((status, err.as_str()), (1, "-: 1 index is out of range\n"));
+    assert_eq!((status, err.as_str()), (1, "wenc-dump: -: 1 index is out of range\n"));
     expect_of(&["--check"], &component(FUNCTION), FUNCTION_TEXT, "");
 }
 

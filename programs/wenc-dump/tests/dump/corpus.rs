@@ -36,7 +36,7 @@ pub fn components() -> impl Iterator<Item = Vec<u8>> {
 fn line(path: &Path) -> String {
     let name = path.file_stem().expect("it has a name").to_string_lossy();
     let (status, out, err) = dump(&["-x"], &fs::read(path).expect("it is there"));
-    let messages = err.lines().filter_map(|line| line.strip_prefix("-: "));
+    let messages = err.lines().filter_map(|line| line.strip_prefix("wenc-dump: -: "));
     let messages: String = messages.map(|message| format!(", {message}")).collect();
     assert_eq!(status, u8::from(!messages.is_empty()), "{name}");
     let lines = out.matches('\n').count();

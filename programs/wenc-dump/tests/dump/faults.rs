@@ -37,7 +37,7 @@ fn files_that_are_none_of_both() {
     }
     let output = start(&[], Path::new("there is none"));
     assert_eq!((output.status.code(), output.stdout.len()), (Some(1), 0));
-    assert!(output.stderr.starts_with(b"there is none: "));
+    assert!(output.stderr.starts_with(b"wenc-dump: there is none: "));
 }
 
 #[test]
@@ -243,7 +243,10 @@ fn sections_may_have_another_size() {
     ] {
         let sections = [&section[..place.start], by, &section[place.end..], import].concat();
         let (status, out, err) = dump(&[], &component(&sections));
-        assert_eq!((status, err), (1, format!("-: the section at 0x8 may be {words}\n")));
+        assert_eq!(
+            (status, err),
+            (1, format!("wenc-dump: -: the section at 0x8 may be {words}\n"))
+        );
         assert_eq!(out.matches(" import \"f\" Func(0)\n").count(), 1, "{out}");
     }
 }

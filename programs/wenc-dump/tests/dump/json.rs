@@ -8,7 +8,10 @@ use std::process::Command;
 /// Checks the JSON of these bytes, after the name of the file, and the exit status.
 fn expect(options: &[&str], bytes: &[u8], status: u8, json: &str) {
     let (is, out, _) = dump(&[&["--json"], options].concat(), bytes);
-    assert_eq!((out.as_str(), is), (&*format!("{{\"file\":\"-\",{json}}}\n"), status));
+    assert_eq!(
+        (out.as_str(), is),
+        (&*format!("{{\"version\":1,\"file\":\"-\",{json}}}\n"), status)
+    );
     Value::read(&out);
 }
 

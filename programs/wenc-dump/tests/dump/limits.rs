@@ -31,7 +31,8 @@ fn least() -> usize {
 /// Returns how many limits are too low for the file with these options. In each of them the program
 /// reports that memory ran out; in the next one it does what it does without a limit.
 fn refusals(options: &[&str], file: &Path) -> usize {
-    let (ample, message) = (start(options, file), format!("{}: memory ran out\n", file.display()));
+    let (ample, message) =
+        (start(options, file), format!("wenc-dump: {}: memory ran out\n", file.display()));
     let limits = (least()..).step_by(STEP).take_while(|kib| {
         let output = limited(*kib, options, file);
         if output == ample {
@@ -150,8 +151,9 @@ fn files_after_the_one_that_memory_ran_out_in() {
     let output = limited(least() + STEP, &[large, empty], &bad);
     let out = String::from_utf8_lossy(&output.stdout);
     assert!(out.contains(&format!("{empty}:\n0x0..0x8 component, 8 bytes\n")), "{out}");
-    let bad = format!("{}: no component's header at 0x0: found an empty file", bad.display());
-    let err = format!("{large}: memory ran out\n{bad}\n");
+    let bad =
+        format!("wenc-dump: {}: no component's header at 0x0: found an empty file", bad.display());
+    let err = format!("wenc-dump: {large}: memory ran out\n{bad}\n");
     assert_eq!(String::from_utf8_lossy(&output.stderr), err);
     assert_eq!(output.status.code(), Some(3));
 }

@@ -1,6 +1,7 @@
 //! The program `wenc-dump`: its output for worked components and for the corpus, as text and as
 //! JSON, and its messages for bad ones.
 
+mod byte;
 mod causes;
 mod check;
 #[path = "../../../wenc/tests/program/completions.rs"]
@@ -10,6 +11,7 @@ mod custom;
 mod debug_names;
 mod faults;
 mod fuzz;
+mod html;
 mod json;
 // The limits are those of optimized code.
 #[cfg(all(target_os = "linux", not(debug_assertions)))]
@@ -18,6 +20,7 @@ mod limits;
 #[path = "../../../wenc/tests/program/manual.rs"]
 mod manual;
 mod options;
+mod schema;
 mod size;
 mod text;
 mod wit;
@@ -99,7 +102,8 @@ fn expect(sections: &[u8], out: &str, messages: &str) {
 
 /// Checks what is printed of these bytes, and the messages, a line for each.
 fn expect_of(options: &[&str], bytes: &[u8], out: &str, messages: &str) {
-    let err: String = messages.lines().map(|message| format!("-: {message}\n")).collect();
+    let err: String =
+        messages.lines().map(|message| format!("wenc-dump: -: {message}\n")).collect();
     let (status, printed, reported) = dump(options, bytes);
     assert_eq!((printed.as_str(), reported.as_str()), (out, err.as_str()));
     assert_eq!(status, u8::from(!err.is_empty()), "{err}");
@@ -108,5 +112,5 @@ fn expect_of(options: &[&str], bytes: &[u8], out: &str, messages: &str) {
 #[cfg(unix)]
 #[test]
 fn of_the_manual() {
-    manual::run("wenc-dump", PROGRAM, 6);
+    manual::run("wenc-dump", PROGRAM, 7);
 }

@@ -68,13 +68,16 @@ fn listed_options() -> BTreeSet<String> {
 #[test]
 fn options_are_completed() {
     let listed = listed_options();
-    assert!(listed.len() == 12 && listed.contains("-x") && listed.contains("--width="));
+    assert!(listed.len() == 18 && listed.contains("-x") && listed.contains("--width="));
     let component = file("completed", FUNCTION);
     for option in &listed {
         let value = match option.as_str() {
             "--section=" => "import",
             "--color=" => "never",
             "--width=" => "9",
+            "--at=" => "0x9",
+            "--output=" => concat!(env!("CARGO_TARGET_TMPDIR"), "/printed"),
+            "-o" => concat!(env!("CARGO_TARGET_TMPDIR"), "/printed too"),
             _ => "",
         };
         assert!(start(&[&format!("{option}{value}")], &component).status.success(), "{option}");
@@ -82,7 +85,8 @@ fn options_are_completed() {
     // what the program compares arguments with
     let source = include_str!("../../src/arguments.rs").split('"');
     let taken: BTreeSet<&str> = source.filter(|text| text.starts_with('-')).collect();
-    let mut named: BTreeSet<&str> = listed.iter().map(|text| text.trim_end_matches('=')).collect();
+    let named = listed.iter().map(|text| text.trim_end_matches('='));
+    let mut named: BTreeSet<&str> = named.filter(|text| text.starts_with("--")).collect();
     named.extend(["-", "--"]);
     assert_eq!(taken, named);
     for (shell, options) in completions::options("wenc-dump") {
@@ -104,7 +108,7 @@ fn options_are_completed() {
 fn bash_completes_words() {
     let of_core = ["core-module", "core-instance", "core-type"];
     for (words, found) in [
-        (&["--c"][..], &["--check", "--color="][..]),
+        (&["--c"][..], &["--color=", "--check", "--compact"][..]),
         (&["--color", "=", "a"], &["always", "auto"]),
         (&["--color", "="], &["always", "auto", "never"]),
         (&["x.wasm", "--section", "core-"], &of_core),
@@ -138,7 +142,7 @@ fn some_sections_are_printed() {
     let both = ["--section=import", "--section=7", "-"];
     expect_run(&both, &component, (0, FUNCTION_TEXT, ""));
     expect_run(&["--section=core-module", "-"], &component, (0, &imports[..30], ""));
-    let json = "{\"file\":\"-\",\"component\":{\"start\":0,\"end\":23,\"name\":null,\
+    let json = "{\"version\":1,\"file\":\"-\",\"component\":{\"start\":0,\"end\":23,\"name\":null,\
         \"sections\":[]},\
         \"fault\":null}\n";
     expect_run(&["--section=start", "--json", "-"], &component, (0, json, ""));
@@ -153,7 +157,7 @@ fn sections_are_those_of_the_file() {
 0x0..0x20 component, 32 bytes
   0x1d..0x20 alias section, 3 bytes, 0 items
 ";
-    let err = "-: bad item 0 at 0x1c in the section at 0x19: 0x09 where an alias is expected\n";
+    let err = "wenc-dump: -: bad item 0 at 0x1c in the section at 0x19: 0x09 where an alias is expected\n";
     expect_run(&["--section=alias", "-"], &bytes, (1, out, err));
     let out = "\
 0x0..0x20 component, 32 bytes
@@ -220,11 +224,11 @@ fn help_and_version() {
 #[test]
 fn standard_input_is_read() {
     expect_run(&["-"], &component(FUNCTION), (0, FUNCTION_TEXT, ""));
-    let bad = "-: no component's header at 0x0: found an empty file\n";
+    let bad = "wenc-dump: -: no component's header at 0x0: found an empty file\n";
     expect_run(&["-"], b"", (1, "", bad));
     // after `--` all are files, and this one doesn't exist
     let (status, _, err) = run(&["--", "--json"], b"", Terminal::default());
-    assert!(status == 1 && err.starts_with("--json: "), "{err}");
+    assert!(status == 1 && err.starts_with("wenc-dump: --json: "), "{err}");
 }
 
 #[test]
@@ -234,7 +238,10 @@ fn several_files_have_their_names_in_front() {
     let front = format!("{}:\n{FUNCTION_TEXT}", good.display());
     let out = format!("{front}{}:\n{front}", bad.display());
     assert_eq!(String::from_utf8_lossy(&output.stdout), out);
-    let err = format!("{}: no component's header at 0x0: found an empty file\n", bad.display());
+    let err = format!(
+        "wenc-dump: {}: no component's header at 0x0: found an empty file\n",
+        bad.display()
+    );
     assert_eq!(String::from_utf8_lossy(&output.stderr), err);
     assert_eq!(output.status.code(), Some(1));
 }
@@ -279,7 +286,7 @@ fn names_of_files_are_escaped() {
     let name = OsStr::from_bytes(b"it's\n\x1b[2J \xe2\x80\xae\xff\\\"\xc3\xa9");
     let output = start(&[], Path::new(name));
     let err = String::from_utf8(output.stderr).expect("it is text");
-    let escaped = "it's\\n\\u{1b}[2J \\u{202e}\\xff\\\\\"é: ";
+    let escaped = "wenc-dump: it's\\n\\u{1b}[2J \\u{202e}\\xff\\\\\"é: ";
     assert!(err.starts_with(escaped), "{err}");
     assert_eq!(output.status.code(), Some(1));
 }

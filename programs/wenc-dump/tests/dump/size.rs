@@ -36,7 +36,8 @@ fn components_more_than_100_deep_are_a_fault() {
     let file = file_of("too_deep", &component);
     let output = start(&[], &file);
     let place = component.len() - 8;
-    let err = format!("{}: components more than 100 deep at {place:#x}\n", file.display());
+    let err =
+        format!("wenc-dump: {}: components more than 100 deep at {place:#x}\n", file.display());
     assert_eq!(String::from_utf8_lossy(&output.stderr), err);
     assert_eq!(output.status.code(), Some(1));
     // the file, a section and a component for each of the others, and what isn't read

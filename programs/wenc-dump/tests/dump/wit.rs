@@ -103,7 +103,7 @@ fn worlds_are_those_of_the_corpus() {
 fn expect(sections: &[u8], world: &str, messages: &str) {
     let (status, out, err) = dump(&["--wit"], &component(sections));
     let expected = format!("package root:component;\n\nworld root {{\n{world}}}\n");
-    let messages: String = messages.lines().map(|line| format!("-: {line}\n")).collect();
+    let messages: String = messages.lines().map(|line| format!("wenc-dump: -: {line}\n")).collect();
     assert_eq!((&out, &err), (&expected, &messages), "{sections:x?}");
     assert_eq!(status, u8::from(!messages.is_empty()));
 }
@@ -219,7 +219,7 @@ fn large_types_are_reported() {
     for component in [of_lists(100), of_tuples] {
         let (status, out, err) = dump(&["--wit"], &component);
         assert_eq!(status, 1);
-        assert!(err.starts_with("-: no WIT: a type that is too large at 0x"), "{err}");
+        assert!(err.starts_with("wenc-dump: -: no WIT: a type that is too large at 0x"), "{err}");
         assert!(out.len() < 200 && out.contains("// no WIT: "), "{out}");
     }
 }

@@ -51,10 +51,11 @@ fn typed(line: &str) -> Vec<String> {
 }
 
 /// The options that a line of fish declares: `-s` is before a letter, `-l` before a word, and `-x`
-/// marks one with a value.
+/// or `-r` marks one with a value.
 fn of_fish(line: &str) -> Vec<String> {
     let words: Vec<&str> = line.split(' ').collect();
-    let value = if words.contains(&"-x") { "=" } else { "" };
+    let has_value = words.iter().any(|word| ["-x", "-r"].contains(word));
+    let value = if has_value { "=" } else { "" };
     let declared = words.windows(2).filter_map(|pair| match pair {
         ["-s", letter] => Some(format!("-{letter}")),
         ["-l", word] => Some(format!("--{word}{value}")),

@@ -1,0 +1,516 @@
+//! A page of HTML that shows the bytes of a file, and needs nothing else.
+
+mod values;
+mod world;
+
+use super::buffer::Buffer;
+use super::check::OutOfRange;
+use super::fault::Fault;
+use super::json::Quoted;
+use super::report::{Content, Contents, Entry, Label, Part, Report, Rest, Source};
+use std::ffi::OsStr;
+use std::fmt::{self, Display, Write as _};
+use std::hash::{DefaultHasher, Hasher};
+use std::io::{self, Write};
+use std::mem;
+use std::ops::Range;
+use values::Values;
+use wenc::scope::{Definition, Instances};
+use wenc::tree::{Space, UsedIndex};
+use world::Places;
+
+const STYLE: &str = include_str!("html/page.css");
+const SCRIPT: &str = include_str!("html/page.js");
+
+/// The SHA-256 digests of the style and the script, in base64.
+const HASHES: [&str; 2] = [
+    "E/DF2QIhfd8DIrVzkY8IoPC9LQcMrtcYcGm12i3Wmbs=",
+    "KR09imXFWNt9OsEM3yFmXsYDW3wTD2rX9ydYL5OaRtQ=",
+];
+
+/// The number of bytes of a part without items above which only its ends are on the page, and the
+/// number of bytes of each end.
+const WHOLE: usize = 0x1_0000;
+const END: usize = 0x1000;
+
+/// The number of bytes of rows, and of items, after which there are rows of sections only, and the
+/// number of rows after which there are none.
+const BYTES: usize = 0x80_0000;
+const ITEMS: usize = 100_000;
+const ROWS: usize = 400_000;
+
+/// The number of bytes that are shown: those after them are left out.
+const SHOWN: usize = 0x100_0000;
+
+/// The number of faults that are shown.
+const FAULTS: usize = 1_000;
+
+/// The number of bytes of plain text for readers without scripts.
+const TEXT: usize = 0x8_0000;
+
+/// Text within HTML.
+pub struct Escaped<'a>(pub &'a str);
+
+impl Display for Escaped<'_> {
+    fn fmt(&self, f: &mut fmt::Formatter<'_>) -> fmt::Result {
+        let mut rest = self.0;
+        while let Some(at) = rest.find(is_escaped) {
+            f.write_str(&rest[..at])?;
+            let mut letters = rest[at..].chars();
+            match letters.next() {
+                Some('<') => f.write_str("&lt;")?,
+                Some('>') => f.write_str("&gt;")?,
+                Some('&') => f.write_str("&amp;")?,
+                Some('"') => f.write_str("&quot;")?,
+                Some(letter) => write!(f, "{}", letter.escape_debug())?,
+                None => {}
+            }
+            rest = letters.as_str();
+        }
+        f.write_str(rest)
+    }
+}
+
+/// Returns whether a character isn't itself in HTML, or may not be seen.
+fn is_escaped(letter: char) -> bool {
+    matches!(letter, '<' | '>' | '&' | '"') || !matches!(letter, ' '..='~' | '\n')
+}
+
+/// A string of JSON, which doesn't end the script that it is in.
+struct Text<T>(T);
+
+impl<T: Display> Display for Text<T> {
+    fn fmt(&self, f: &mut fmt::Formatter<'_>) -> fmt::Result {
+        write!(Script(f), "{}", Quoted(&self.0))
+    }
+}
+
+struct Script<'f, 'a>(&'f mut fmt::Formatter<'a>);
+
+impl fmt::Write for Script<'_, '_> {
+    fn write_str(&mut self, text: &str) -> fmt::Result {
+        let mut parts = text.split('<');
+        parts.next().map_or(Ok(()), |part| self.0.write_str(part))?;
+        parts.try_for_each(|part| write!(self.0, "\\u003c{part}"))
+    }
+}
+
+/// Bytes in base64.
+struct Base64<'a>(&'a [u8]);
+
+impl Display for Base64<'_> {
+    fn fmt(&self, f: &mut fmt::Formatter<'_>) -> fmt::Result {
+        const LETTERS: &[u8; 64] =
+            b"ABCDEFGHIJKLMNOPQRSTUVWXYZabcdefghijklmnopqrstuvwxyz0123456789+/";
+        for three in self.0.chunks(3) {
+            let byte = |at: usize| three.get(at).map_or(0, |byte| usize::from(*byte));
+            let number = byte(0) << 16 | byte(1) << 8 | byte(2);
+            for at in 0..4 {
+                let letter = LETTERS[number >> (18 - 6 * at) & 63] as char;
+                f.write_char(if at > three.len() { '=' } else { letter })?;
+            }
+        }
+        Ok(())
+    }
+}
+
+/// The first bytes of a text; more of them are an error.
+#[derive(Default)]
+pub struct Front(pub Vec<u8>);
+
+impl Write for Front {
+    fn write(&mut self, bytes: &[u8]) -> io::Result<usize> {
+        let len = bytes.len().min(TEXT - self.0.len());
+        self.0.try_reserve(len)?;
+        self.0.extend(&bytes[..len]);
+        Ok(len)
+    }
+
+    fn flush(&mut self) -> io::Result<()> {
+        Ok(())
+    }
+}
+
+/// A fault by the byte offsets of the part and of what is wrong in it.
+struct Wrong {
+    place: usize,
+    cause: usize,
+    message: String,
+    expected: String,
+}
+
+/// A part that is open.
+struct Open {
+    row: usize,
+    /// The id of the section, of a component.
+    id: Option<u8>,
+}
+
+/// The data of a file on a page, as JSON.
+pub struct Data<'d, 'f, 't> {
+    bytes: &'f [u8],
+    /// A report for readers without scripts, until it is too long.
+    text: Option<super::text::Text<'t>>,
+    values: Values<'d, 'f>,
+    rows: Buffer,
+    /// The numbers of rows, and of those of items.
+    counts: (usize, usize),
+    /// The byte offset at which the last row begins.
+    last: usize,
+    open: Vec<Open>,
+    words: Vec<String>,
+    /// The numbers of the words for spaces, of which there are few.
+    spaces: Vec<(Space, usize)>,
+    /// The bytes that aren't on the page.
+    cut: Vec<Range<usize>>,
+    wrong: Vec<Wrong>,
+    /// Whether rows or values are left out.
+    is_short: bool,
+}
+
+/// Kinds of rows.
+#[derive(Clone, Copy)]
+enum Kind {
+    Component,
+    Module,
+    Section,
+    Item,
+    Custom,
+    Entry,
+    Unread,
+}
+
+fn no_memory(_: fmt::Error) -> io::Error {
+    io::ErrorKind::OutOfMemory.into()
+}
+
+impl<'d, 'f, 't> Data<'d, 'f, 't> {
+    /// # Errors
+    ///
+    /// Fails if memory runs out, as what is done with the data does.
+    pub fn new(
+        bytes: &'f [u8],
+        instances: &'d Instances<'d, 'f>,
+        text: super::text::Text<'t>,
+    ) -> io::Result<Self> {
+        let (text, is_short) = (Some(text), false);
+        let values = Values::new(bytes, instances).map_err(no_memory)?;
+        let (rows, words, spaces, open) = Default::default();
+        let (counts, last, cut, wrong) = ((0, 0), 0, Vec::new(), Vec::new());
+        Ok(Self {
+            bytes,
+            text,
+            values,
+            rows,
+            counts,
+            last,
+            open,
+            words,
+            spaces,
+            cut,
+            wrong,
+            is_short,
+        })
+    }
+
+    /// Adds a fault.
+    pub fn fault(&mut self, fault: &Fault) -> io::Result<()> {
+        let Some(place) = fault.place else { return Ok(()) };
+        let cause = fault.cause().map_or(place, |(cause, _)| cause);
+        let expected = fault.expected().unwrap_or_default();
+        self.wrong(Wrong { place, cause, message: fault.to_string(), expected })
+    }
+
+    fn tell(&mut self, what: impl FnOnce(&mut super::text::Text<'t>) -> io::Result<()>) {
+        if self.text.as_mut().is_some_and(|text| what(text).is_err()) {
+            self.text = None;
+        }
+    }
+
+    fn wrong(&mut self, wrong: Wrong) -> io::Result<()> {
+        if self.wrong.len() < FAULTS {
+            self.wrong.try_reserve(1)?;
+            self.wrong.push(wrong);
+        }
+        Ok(())
+    }
+
+    /// Returns whether there is space for another row; without it the part's own parts are in the
+    /// part around it.
+    fn has_space(&mut self, is_item: bool) -> bool {
+        let is_long = self.rows.0.len() > BYTES || self.counts.1 >= ITEMS;
+        let is_full = is_item && is_long || self.counts.0 >= ROWS;
+        self.is_short |= is_full;
+        self.counts.1 += usize::from(is_item);
+        if is_full {
+            let Open { row, id } = *self.open.last().unwrap_or(&Open { row: 0, id: None });
+            self.open.push(Open { row, id });
+        }
+        !is_full
+    }
+
+    /// Begins a row: the distance to that around it, the byte offset as seen from the row before it,
+    /// the number of bytes, and the kind.
+    fn row(&mut self, range: &Range<usize>, kind: Kind) -> fmt::Result {
+        let around = self.open.last().map_or(0, |open| self.counts.0 - open.row);
+        let by = range.start as isize - self.last as isize;
+        let lead = if self.counts.0 == 0 { "[" } else { ",\n[" };
+        write!(self.rows, "{lead}{around},{by},{},{}", range.len(), kind as u8)?;
+        self.open.push(Open { row: self.counts.0, id: None });
+        self.counts.0 += 1;
+        self.last = range.start;
+        Ok(())
+    }
+
+    fn field(&mut self, value: impl Display) -> fmt::Result {
+        write!(self.rows, ",{value}")
+    }
+
+    /// Writes a text, or 0.
+    fn text(&mut self, text: Option<&str>) -> fmt::Result {
+        match text {
+            Some(text) => self.field(Text(text)),
+            None => self.field(0),
+        }
+    }
+
+    /// Cuts bytes without items to their ends.
+    fn cut(&mut self, bytes: Range<usize>) -> fmt::Result {
+        if bytes.len() > WHOLE {
+            self.cut.try_reserve(1).map_err(|_| fmt::Error)?;
+            self.cut.push(bytes.start + END..bytes.end - END);
+        }
+        Ok(())
+    }
+
+    /// Returns the number of a word for a section or a space, of which there are few.
+    fn word(&mut self, word: &dyn Display) -> Result<usize, fmt::Error> {
+        let word = word.to_string();
+        let known = self.words.iter().position(|known| *known == word);
+        if known.is_none() {
+            self.words.try_reserve(1).map_err(|_| fmt::Error)?;
+            self.words.push(word);
+        }
+        Ok(known.unwrap_or(self.words.len() - 1))
+    }
+
+    /// Writes the indices of an item, or what there is instead of them, and a debug name.
+    fn label(&mut self, label: Option<&Label>, at: usize) -> fmt::Result {
+        let Some(label) = label else { return self.rows.write_str(",-1,-1,0,0") };
+        let known = self.spaces.iter().find(|(space, _)| *space == label.space);
+        let word = match known {
+            Some((_, word)) => *word,
+            None => {
+                let word = self.word(&label.space)?;
+                self.spaces.push((label.space, word));
+                word
+            }
+        };
+        // definitions know more indices after an item that can't be read
+        let known = self.values.definitions.get(&at).and_then(|of| of.index()).map(u64::from);
+        let from = label.from.or(known).map_or(-1, i128::from);
+        write!(self.rows, ",{word},{from},{}", label.count)?;
+        self.text(label.name)
+    }
+
+    /// Writes the values of an item, and the byte offsets of what it is the same as, of the last of
+    /// these, of its type, and of the import that it comes from.
+    fn item(&mut self, range: &Range<usize>, item: Source) -> fmt::Result {
+        // the item itself is open, within its section
+        let id = self.open.iter().rev().nth(1).and_then(|open| open.id);
+        let (shape, values) = self.values.item(id, range, item)?;
+        write!(self.rows, ",{shape},[{}]", values.strip_prefix(',').unwrap_or(""))?;
+        let Some(of) = self.values.definitions.get(&range.start) else { return Ok(()) };
+        let place = |found: Option<Definition>| {
+            found.map(Definition::place).filter(|place| *place != range.start).unwrap_or(0)
+        };
+        let same = place(of.target().ok().flatten());
+        let last = place(of.resolve().ok());
+        let ty = place(of.ty().ok().flatten());
+        let origin = place(of.origin().ok().flatten());
+        let last = if last == same { 0 } else { last };
+        if [same, last, ty, origin] == [0; 4] {
+            return Ok(());
+        }
+        write!(self.rows, ",{same},{last},{ty},{origin}")
+    }
+
+    fn part(&mut self, part: &Part) -> fmt::Result {
+        match part {
+            Part::File(range, Content::Component(name)) => {
+                self.row(range, Kind::Component)?;
+                self.label(None, 0)?;
+                self.text(*name)?;
+            }
+            Part::File(range, _) => self.row(range, Kind::Module)?,
+            Part::Section { range, id, word, content, count, core } => {
+                self.row(range, Kind::Section)?;
+                let word = match word {
+                    Some(word) => self.word(word)?,
+                    None => self.word(&format_args!("section {id}"))?,
+                };
+                let count = count.map_or(-1, i64::from);
+                let is_core = u8::from(core.is_some());
+                write!(self.rows, ",{word},{id},{count},{is_core}")?;
+                self.text(core.as_ref().and_then(|core| core.name))?;
+                self.field(content - range.start)?;
+                if let Some(open) = self.open.last_mut() {
+                    open.id = Some(*id).filter(|_| core.is_none());
+                }
+                if let Some(core) = core {
+                    self.cut(range.end - core.bytes.len()..range.end)?;
+                }
+            }
+            Part::Item { range, content: Content::Custom(name, size, contents), .. } => {
+                self.row(range, Kind::Custom)?;
+                self.text(Some(name))?;
+                if *contents == Contents::Other {
+                    self.cut(range.end - size..range.end)?;
+                }
+            }
+            Part::Item { range, label, content, item, .. } => {
+                let (kind, name) = match content {
+                    Content::Component(name) => (Kind::Component, *name),
+                    Content::Module => (Kind::Module, None),
+                    _ => (Kind::Item, None),
+                };
+                self.row(range, kind)?;
+                self.label(label.as_ref(), range.start)?;
+                match kind {
+                    Kind::Item => self.item(range, *item)?,
+                    _ => self.text(name)?,
+                }
+            }
+            Part::Entry(Entry::Name(of, name)) => {
+                self.row(&(self.last..self.last), Kind::Entry)?;
+                let of = of.map(|(space, index)| format!("{space} {index}"));
+                self.text(Some(of.as_deref().unwrap_or("component")))?;
+                self.text(Some(name))?;
+            }
+            Part::Entry(Entry::Tool(tool)) => {
+                self.row(&(self.last..self.last), Kind::Entry)?;
+                self.text(Some(tool.field))?;
+                self.field(Text(format_args!("{} {}", tool.name, tool.version)))?;
+            }
+        }
+        self.rows.write_str("]")
+    }
+
+    /// Writes the object of the file with this name, whose world is this text.
+    pub fn print(mut self, out: &mut dyn Write, name: &str, world: &str) -> io::Result<()> {
+        let (size, is_short) = (self.bytes.len(), self.is_short);
+        write!(out, "{{\"file\":{},\"size\":{size},\"short\":{is_short},", Text(name))?;
+        write!(out, "\"words\":[")?;
+        for (at, word) in self.words.iter().enumerate() {
+            write!(out, "{}{word:?}", if at == 0 { "" } else { "," })?;
+        }
+        write!(out, "],\n\"shapes\":[")?;
+        write!(out, "{}],\n\"expected\":[", self.values.shapes.all.0)?;
+        write!(out, "{}],\n\"rows\":[{}],\n\"faults\":[", self.values.expected.all.0, self.rows.0)?;
+        self.wrong.sort_by_key(|wrong| (wrong.place, wrong.cause));
+        let mut lead = "";
+        for Wrong { place, cause, message, expected } in &self.wrong {
+            write!(out, "{lead}[{place},{cause},{},\"{expected}\"]", Text(message))?;
+            lead = ",";
+        }
+        let root = self.values.root;
+        let places = Places::new(root).ok_or(io::ErrorKind::OutOfMemory)?;
+        let mut lead = "],\n\"wit\":[";
+        let world = if world.len() < TEXT { world } else { "// It is too long." };
+        places.each_line(world, |line, place| {
+            write!(out, "{}[{},{place}]", mem::replace(&mut lead, ","), Text(line))
+        })?;
+        out.write_all(if lead == "," { b"" } else { lead.as_bytes() })?;
+        // the bytes before each that are cut, and a hash of these
+        let (mut from, mut lead, mut left) = (0, "],\n\"bytes\":[", SHOWN);
+        for mut cut in self.cut.iter().cloned().chain([size..size]) {
+            if cut.start - from > left {
+                cut = from + left..size;
+            }
+            let mut hasher = DefaultHasher::new();
+            hasher.write(&self.bytes[cut.clone()]);
+            let hash = hasher.finish();
+            let bytes = Base64(&self.bytes[from..cut.start]);
+            write!(out, "{lead}[{from},\"{bytes}\",\"{hash:x}\"]")?;
+            (left, lead) = (left - (cut.start - from), ",");
+            from = cut.end;
+            if from == size && cut.start < size {
+                write!(out, ",[{size},\"\",\"\"]")?;
+                break;
+            }
+        }
+        out.write_all(b"]}")
+    }
+}
+
+/// Writes a page up to its data, for files of this name.
+pub fn begin(out: &mut dyn Write, name: &str) -> io::Result<()> {
+    let ([style, script], name) = (HASHES, Escaped(name));
+    write!(
+        out,
+        "<!DOCTYPE html>\n<html lang=\"en\"><head><meta charset=\"utf-8\">\n\
+         <meta http-equiv=\"Content-Security-Policy\" content=\"default-src 'none'; \
+         style-src 'sha256-{style}'; script-src 'sha256-{script}'; base-uri 'none'; \
+         form-action 'none'\">\n\
+         <meta name=\"viewport\" content=\"width=device-width\">\n\
+         <meta name=\"color-scheme\" content=\"light dark\">\n\
+         <title>{name}</title>\n<style>{STYLE}</style></head>\n<body>\n\
+         <script type=\"application/json\" id=\"data\">[",
+    )
+}
+
+/// Ends a page, with a text of what is in the files.
+pub fn end(out: &mut dyn Write, name: &str, Front(text): &Front) -> io::Result<()> {
+    let more = if text.len() < TEXT { "" } else { "\n(and more)\n" };
+    let (name, text) = (Escaped(name), String::from_utf8_lossy(text));
+    let text = Escaped(&text);
+    write!(out, "]</script>\n<noscript><h1>{name}</h1>\n<pre>{text}{more}</pre></noscript>\n")?;
+    write!(out, "<script>{SCRIPT}</script>\n</body></html>\n")
+}
+
+impl Report for Data<'_, '_, '_> {
+    fn begin(&mut self, file: &OsStr) -> io::Result<()> {
+        self.tell(|text| text.begin(file));
+        Ok(())
+    }
+
+    fn open(&mut self, part: &Part) -> io::Result<()> {
+        self.tell(|text| text.open(part));
+        self.open.try_reserve(1)?;
+        let is_item = !matches!(part, Part::File(..) | Part::Section { .. });
+        if self.has_space(is_item) { self.part(part).map_err(no_memory) } else { Ok(()) }
+    }
+
+    fn unread(&mut self, place: usize, what: &str, rest: Rest) -> io::Result<()> {
+        self.tell(|text| text.unread(place, what, rest));
+        self.open.try_reserve(1)?;
+        let range = place..place + rest.bytes.len();
+        if self.has_space(true) {
+            self.row(&range, Kind::Unread).map_err(no_memory)?;
+            write!(self.rows, ",\"{what}\"]").map_err(no_memory)?;
+            self.cut(range).map_err(no_memory)?;
+        }
+        self.open.pop();
+        Ok(())
+    }
+
+    fn out_of_range(&mut self, place: usize, index: &UsedIndex) -> io::Result<()> {
+        self.tell(|text| text.out_of_range(place, index));
+        let message = OutOfRange(index).to_string();
+        self.wrong(Wrong { place, cause: place, message, expected: String::new() })
+    }
+
+    fn flush(&mut self) -> io::Result<()> {
+        Ok(())
+    }
+
+    fn close(&mut self) -> io::Result<()> {
+        self.tell(Report::close);
+        self.open.pop();
+        Ok(())
+    }
+
+    fn end(&mut self, _: Option<&Fault>) -> io::Result<()> {
+        Ok(())
+    }
+}
