@@ -73,14 +73,14 @@ const UNKNOWN: u64 = u64::MAX;
 ///
 /// Needs the feature `scope`.
 ///
-/// On a 64-bit machine they take at most 40 bytes of memory for each byte of the component, and 1 MB:
-/// 36 for each item and declaration and for each member of the list of an instance, 40 for its scope
-/// or list, 60 for its name and what it is the same as, and 72 for each path of instances, of which
-/// there are at most 8192 and one for each 20 bytes. What a definition is the same as is found when
-/// it is read, so that [`resolve`](Definition::resolve) follows any number of exports and aliases in
-/// the time of one. Types that are declared in types, at most 100 deep, are read once for each type
-/// around them. Nothing recurses: nested components may be as deep as `limit` says, and an instance
-/// in at most 100 others can be followed.
+/// On a 64-bit machine they take at most 40 bytes of memory for each byte of the component, and 1
+/// MB: 36 for each item and declaration and for each member of the list of an instance, 40 for its
+/// scope or list, 60 for its name and what it is the same as, and 72 for each path of instances, of
+/// which there are at most 8192 and one for each 20 bytes. What a definition is the same as is
+/// found when it is read, so that [`resolve`](Definition::resolve) follows any number of exports
+/// and aliases in the time of one. Types that are declared in types, at most 100 deep, are read
+/// once for each type around them. Nothing recurses: nested components may be as deep as `limit`
+/// says, and an instance in at most 100 others can be followed.
 ///
 /// ```
 /// use wenc::scope::Definitions;
@@ -198,8 +198,9 @@ impl fmt::Debug for Definitions<'_> {
 /// Needs the feature `scope`.
 ///
 /// What is written, [`Definitions`], may be shared by threads, each of which has instances of its
-/// own; definitions of different ones aren't equal. Each path of instances that is followed takes at most 72 bytes of memory until these are
-/// dropped; there are at most 8192 paths, and one for each 20 bytes of the component.
+/// own; definitions of different ones aren't equal. Each path of instances that is followed takes
+/// at most 72 bytes of memory until these are dropped; there are at most 8192 paths, and one for
+/// each 20 bytes of the component.
 pub struct Instances<'s, 'a> {
     all: &'s Definitions<'a>,
     /// The paths that aren't among those of `all`: their numbers follow those.
@@ -216,11 +217,11 @@ impl<'a> Instances<'_, 'a> {
 
     /// Returns the definitions that have an index of this one, as they are written: items,
     /// declarations, and exports and arguments in the lists of instances. Those that have an index
-    /// of what is the same as it, such as an alias, aren't among them. They are in their order, those
-    /// in an outer scope before those in it.
+    /// of what is the same as it, such as an alias, aren't among them. They are in their order,
+    /// those in an outer scope before those in it.
     ///
-    /// All users are found by the first call, which takes at most 8 bytes of memory for each byte of
-    /// the component, and each other call takes the time of its own.
+    /// All users are found by the first call, which takes at most 8 bytes of memory for each byte
+    /// of the component, and each other call takes the time of its own.
     ///
     /// ```
     /// use wenc::scope::Definitions;
@@ -392,8 +393,8 @@ impl<'s, 'a> Scope<'s, 'a> {
         (start..end.min(self.before)).map(move |number| self.definition(number))
     }
 
-    /// Returns the first export, declared export or argument with this name in this space; `None` if
-    /// there is none. In a valid component there is at most one.
+    /// Returns the first export, declared export or argument with this name in this space; `None`
+    /// if there is none. In a valid component there is at most one.
     ///
     /// # Errors
     ///

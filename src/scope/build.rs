@@ -18,8 +18,8 @@ impl<'a> Definitions<'a> {
     /// # Errors
     ///
     /// The first error of a section or of an item, [`Part::Depth`](crate::Part::Depth) for a
-    /// component that is nested deeper, and [`NoMemory`](crate::Cause::NoMemory). Indices that can't
-    /// be followed are no error here.
+    /// component that is nested deeper, and [`NoMemory`](crate::Cause::NoMemory). Indices that
+    /// can't be followed are no error here.
     #[doc(alias = "parse")]
     pub fn new(bytes: &'a [u8], limit: usize) -> Result<Self, ReadError> {
         let mut reader = Reader::new(bytes);
@@ -35,8 +35,8 @@ impl<'a> Definitions<'a> {
     /// [`Unread`](super::ScopeFault::Unread). Nor are any after what isn't a section, in the
     /// innermost component. Canonical functions that can't be read are known to be core functions,
     /// and so are the indices after them, once an item refers to the last core function that there
-    /// is then: if one of them were a lifted function, that index would be out of range. They aren't
-    /// if the section ends where one of them is expected, as their number may be wrong.
+    /// is then: if one of them were a lifted function, that index would be out of range. They
+    /// aren't if the section ends where one of them is expected, as their number may be wrong.
     ///
     /// ```
     /// use wenc::scope::{Definitions, ScopeFault};
@@ -87,8 +87,8 @@ struct Sizes {
     links: usize,
 }
 
-/// What reads a component: once for its sizes, so that memory is reserved for nothing else, then for
-/// its definitions.
+/// What reads a component: once for its sizes, so that memory is reserved for nothing else, then
+/// for its definitions.
 pub(super) struct Reader<'a> {
     pub all: Definitions<'a>,
     sizes: Sizes,
@@ -122,8 +122,8 @@ pub(super) struct Open {
     pub scope: u32,
     /// What defines it in the scope around it.
     opener: Entry,
-    /// The number of core functions, if all canonical functions that can't be read are some; `None` if
-    /// it isn't known.
+    /// The number of core functions, if all canonical functions that can't be read are some; `None`
+    /// if it isn't known.
     pub core_funcs: Option<u64>,
     /// The last entry of canonical functions that can't be read, which has the one before it.
     pub unread: u32,
@@ -294,8 +294,8 @@ impl<'a> Reader<'a> {
         self.define(Entry { more, ..entry })
     }
 
-    /// Adds what is kept of a definition that has a name, or is the same as another one. Returns its
-    /// number.
+    /// Adds what is kept of a definition that has a name, or is the same as another one. Returns
+    /// its number.
     fn add_link(&mut self, place: usize, meaning: &Meaning<'a>) -> Result<u32, ReadError> {
         let (number, name) = (self.sizes.links as u32, meaning.name());
         self.sizes.links += 1;
@@ -312,8 +312,8 @@ impl<'a> Reader<'a> {
         Ok(number)
     }
 
-    /// Begins the scope of a definition, which may have arguments for the component or the module with
-    /// this index.
+    /// Begins the scope of a definition, which may have arguments for the component or the module
+    /// with this index.
     fn enter(&mut self, opener: Entry, of: u32) -> Result<(), ReadError> {
         let scope = self.sizes.frames as u32;
         self.sizes.frames += 1;

@@ -76,9 +76,9 @@ impl<'s, 'a> Definition<'s, 'a> {
         self.entry().space
     }
 
-    /// Returns its index, or the first of several; `None` if it defines none, or if the index depends
-    /// on items that can't be read. A recursion group has one for each of its types, a start function
-    /// one for each of its results.
+    /// Returns its index, or the first of several; `None` if it defines none, or if the index
+    /// depends on items that can't be read. A recursion group has one for each of its types, a
+    /// start function one for each of its results.
     pub fn index(self) -> Option<u32> {
         let entry = self.entry();
         u32::try_from(entry.first).ok().filter(|_| entry.count() > 0)
@@ -98,7 +98,8 @@ impl<'s, 'a> Definition<'s, 'a> {
     }
 
     /// Returns the scope that a component, a component type, an instance type or a module type has,
-    /// as it is written; of an instance the list of its exports or of its arguments, as definitions.
+    /// as it is written; of an instance the list of its exports or of its arguments, as
+    /// definitions.
     pub fn inner(self) -> Option<Scope<'s, 'a>> {
         let (number, place) = (self.entry().inner()?, self.place());
         Some(Scope { all: self.all, number, before: NONE, place, path: self.at.path })
@@ -142,8 +143,8 @@ impl<'s, 'a> Definition<'s, 'a> {
         scope.get(space, index)
     }
 
-    /// Returns the innermost instance through which it is reached; `None` if it is as it is written.
-    /// What an instance exports by its type is reached through it, too.
+    /// Returns the innermost instance through which it is reached; `None` if it is as it is
+    /// written. What an instance exports by its type is reached through it, too.
     pub fn instance(self) -> Option<Self> {
         let path = (self.at.path != NONE).then(|| self.all.path(self.at.path));
         path.map(|path| Self { at: path.instance, ..self })

@@ -1,4 +1,5 @@
-//! What is kept of each definition: where it is, and what it is the same as. The rest is read again.
+//! What is kept of each definition: where it is, and what it is the same as. The rest is read
+//! again.
 
 use super::fault::ScopeFault;
 use super::meaning::Members;
@@ -34,7 +35,8 @@ pub(super) enum Role {
     Plain,
     /// More or fewer indices than one: their number is `Entry::more`.
     Several,
-    /// A component, a component type, an instance type or a module type: `Entry::more` is its scope.
+    /// A component, a component type, an instance type or a module type: `Entry::more` is its
+    /// scope.
     Component,
     ComponentType,
     InstanceType,
@@ -67,8 +69,8 @@ pub(super) struct Entry {
     pub len: u32,
     /// The scope or the list that it is in.
     pub scope: u32,
-    /// The first of its indices, if it has some: `UNKNOWN` after what can't be read. Of what can't be
-    /// read the set of spaces whose indices aren't known from there on, as bits.
+    /// The first of its indices, if it has some: `UNKNOWN` after what can't be read. Of what can't
+    /// be read the set of spaces whose indices aren't known from there on, as bits.
     pub first: u64,
     /// By its role.
     pub more: u32,
@@ -162,8 +164,8 @@ impl Entry {
         matches!(self.role, Import | Declared | Ascribed | Alias | ModuleExport | Linked)
     }
 
-    /// Returns where it is among the entries of its scope that are sorted by their spaces: before all
-    /// others what can't be read and makes indices unknown, after them what has no index.
+    /// Returns where it is among the entries of its scope that are sorted by their spaces: before
+    /// all others what can't be read and makes indices unknown, after them what has no index.
     pub fn rank(&self) -> usize {
         match self.space {
             _ if self.role == Role::Unread => {

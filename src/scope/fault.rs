@@ -56,7 +56,8 @@ pub enum ScopeFault {
         /// The space of the component, the instance or the core module.
         space: Space,
     },
-    /// It is reached through more than 100 instances, or in too many steps.
+    /// It is reached through more than 100 instances, or in more than 2000 steps, or there are too
+    /// many instances (see [`Definitions`](super::Definitions)).
     TooDeep {
         /// The byte offset of the item that refers to it.
         place: usize,

@@ -195,8 +195,8 @@ impl Instances<'_, '_> {
         Some(At { path: instance.path, number: argument })
     }
 
-    /// Returns the definition that this one, which is reached through instances, is the same as: the
-    /// next one, not the last.
+    /// Returns the definition that this one, which is reached through instances, is the same as:
+    /// the next one, not the last.
     pub(super) fn target_through(&self, at: At) -> Result<Option<At>, ScopeFault> {
         if let Some(argument) = self.argument(at.path, at.number) {
             return Ok(Some(argument));
@@ -229,8 +229,8 @@ impl Instances<'_, '_> {
         }
     }
 
-    /// Returns what an entry is the same as that is stored for it: a type that may be replaced isn't
-    /// followed, since it has a name by which it is found again.
+    /// Returns what an entry is the same as that is stored for it: a type that may be replaced
+    /// isn't followed, since it has a name by which it is found again.
     pub(super) fn stored(&self, at: At, place: usize) -> Result<At, ScopeFault> {
         self.follow(at, &mut Waiting::default(), place, false)
     }
@@ -276,29 +276,43 @@ impl Instances<'_, '_> {
                     }
                     None => at = instance,
                 },
-                Some(Todo::Member(number)) => match self.opened(at)? {
-                    Opened::Path(path) if self.path(path).scope == self.all.entry(number).scope => {
-                        at = At { path, number };
-                    }
-                    Opened::Path(_) | Opened::List(_) => {
-                        let name = self.all.link(number).and_then(|link| link.name);
-                        let (Some(name), Some(space)) = (name, self.all.entry(number).space) else {
-                            return Err(ScopeFault::TooDeep { place });
-                        };
-                        let found = self.export_in(at, name, space, place)?;
-                        let missing = ScopeFault::NoExport { place, space };
-                        (at, is_found) = (found.ok_or(missing)?, false);
-                    }
-                    Opened::By(by) => {
-                        todo.push(Todo::Member(number), place)?;
-                        todo.push(Todo::Open(at), place)?;
-                        (at, is_found) = (by, false);
-                    }
-                    Opened::Unknown => return Err(ScopeFault::TooDeep { place }),
-                },
+                Some(Todo::Member(number)) => {
+                    (at, is_found) = self.member(at, number, todo, place)?;
+                }
             }
         }
         Err(ScopeFault::TooDeep { place })
+    }
+
+    /// Returns an entry of an instance, and whether it is the last one that it is the same as; what
+    /// is to be found before it, if the exports of the instance aren't known yet.
+    fn member(
+        &self,
+        at: At,
+        number: u32,
+        todo: &mut Waiting,
+        place: usize,
+    ) -> Result<(At, bool), ScopeFault> {
+        let of = self.all.entry(number);
+        match self.opened(at)? {
+            Opened::Path(path) if self.path(path).scope == of.scope => {
+                Ok((At { path, number }, true))
+            }
+            Opened::Path(_) | Opened::List(_) => {
+                let name = self.all.link(number).and_then(|link| link.name);
+                let (Some(name), Some(space)) = (name, of.space) else {
+                    return Err(ScopeFault::TooDeep { place });
+                };
+                let found = self.export_in(at, name, space, place)?;
+                Ok((found.ok_or(ScopeFault::NoExport { place, space })?, false))
+            }
+            Opened::By(by) => {
+                todo.push(Todo::Member(number), place)?;
+                todo.push(Todo::Open(at), place)?;
+                Ok((by, false))
+            }
+            Opened::Unknown => Err(ScopeFault::TooDeep { place }),
+        }
     }
 
     /// Returns where the exports of an instance are, or of a component, which has those of an

@@ -21,8 +21,8 @@ impl Reader<'_> {
             return Ok(());
         }
         let section = error.id.and_then(|id| ComponentSectionId::try_from(id).ok());
-        // how many canonical functions there are isn't known without their count, nor if the section
-        // ends before them: then their count may be what is wrong
+        // how many canonical functions there are isn't known without their count, nor if the
+        // section ends before them: then their count may be what is wrong
         let is_early = matches!(error.cause, Cause::Few { .. }) && range.is_empty();
         let is_canonical = section == Some(ComponentSectionId::CanonicalFunction)
             && matches!(error.part, Part::Item(_))

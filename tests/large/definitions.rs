@@ -1,6 +1,6 @@
 //! The memory and the steps of what indices mean, for components that are made for the worst of
-//! both. Each is read at two sizes; in quadratic time no test would end within the time limit of the
-//! gate.
+//! both. Each is read at two sizes; in quadratic time no test would end within the time limit of
+//! the gate.
 
 use crate::refuse::requested;
 use wenc::Component;
@@ -98,8 +98,8 @@ fn followed(all: &Definitions<'_>) -> [usize; 3] {
     seen
 }
 
-/// Each takes at most 40 bytes of memory for each byte, and 1 MB, which is all at once: what is read
-/// is counted before memory is reserved. Users take 8 bytes more.
+/// Each takes at most 40 bytes of memory for each byte, and 1 MB, which is all at once: what is
+/// read is counted before memory is reserved. Users take 8 bytes more.
 #[test]
 fn memory_is_as_much_as_is_stated() {
     let (mut sums, mut all) = ([[0; 3]; 2], 0);

@@ -26,8 +26,8 @@ fn is_unread(all: &Instances<'_, '_>, space: Space, index: u32, from: usize) {
     assert!(is_unread, "{space} {index}: {found:x?}");
 }
 
-/// A section whose size is beyond the end, in a component, and at the end of the outermost: what is in
-/// that one isn't known, and what is around it is.
+/// A section whose size is beyond the end, in a component, and at the end of the outermost: what is
+/// in that one isn't known, and what is around it is.
 #[test]
 fn sections_without_an_end() {
     let bad = b"\x0b\x7f\x01";

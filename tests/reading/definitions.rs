@@ -554,6 +554,13 @@ fn resources_of_instances() {
     let origin = [1, 2].map(|index| ty(index).origin().unwrap().and_then(Definition::name));
     assert_eq!(origin, [Some("a"), Some("b")]);
     assert_eq!(ty(2).instance().and_then(Definition::index), Some(1));
+    let import = all.component().get(Space::Instances, 1).unwrap();
+    let exports = import.exports().unwrap().unwrap();
+    assert_eq!(
+        (exports.instance(), exports.export("r", Space::Types)),
+        (Some(import), Ok(Some(ty(2))))
+    );
+    assert_eq!(all.component().instance(), None);
     // a component that defines one and exports it, instantiated twice
     let inner = [many(7, &[b"\x3f\x7f\0"]), section(11, b"\x01\0\x01r\x03\0\0")];
     let instances = many(5, &[b"\0\0\0", b"\0\0\0"]);

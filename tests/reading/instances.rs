@@ -130,7 +130,8 @@ fn resources_are_those_of_an_evaluator() {
             seen += 1;
         }
         same += seen_twice(&expected);
-        // two mistakes are seen: the instance isn't part of what it is, or the argument isn't passed
+        // two mistakes are seen: the instance isn't part of what it is, or the argument isn't
+        // passed
         mistakes[0] += differ(&expected, last.iter().map(|of| of.place()));
         mistakes[1] += differ(&expected, types.iter().map(|of| of.target().ok().flatten()));
     }
