@@ -241,7 +241,7 @@ fn components_with_a_renamed_import_have_all_else() {
             .into_iter()
             .flat_map(|of| of.items)
             .filter_map(|item| names(&item))
-            .last()
+            .next_back()
         else {
             continue;
         };
