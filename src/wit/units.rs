@@ -97,9 +97,9 @@ fn unit_of<'s, 'a>(of: Definition<'s, 'a>) -> Result<Option<Unit<'s, 'a>>, Stop>
     let package = Some(package);
     Ok(match export.space() {
         Some(Space::Instances) => Some(Unit { scope, package, world: None }),
-        Some(Space::Components) => known(export.exports())?
-            .flatten()
-            .map(|scope| Unit { scope, package, world: Some(id) }),
+        Some(Space::Components) => {
+            known(export.exports())?.flatten().map(|scope| Unit { scope, package, world: Some(id) })
+        }
         _ => None,
     })
 }

@@ -1,10 +1,10 @@
 //! Worlds as WIT: what is printed of the components of the corpus, beside the WIT that they were
 //! made of, and of others.
 
+mod damaged;
 #[allow(dead_code, reason = "a test needs no `main`")]
 #[path = "../../../../examples/first.rs"]
 mod first;
-mod damaged;
 mod reader;
 mod rows;
 
