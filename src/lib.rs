@@ -88,6 +88,7 @@
 //!   [`CoreSections`], [`DebugNames`], [`ProducersReader`], [`scope`], [`view`], and the types of
 //!   [`tree`] that borrowed and owned items share: `Node`, `Space`, `Scope`, `IndexCounts` and core
 //!   types.
+//! - `wit` adds worlds as WIT, `wit`, to `walk`.
 //! - `tree` adds items that own what they contain, to `walk`: [`list`], [`ItemSection`], the other
 //!   types of [`tree`], and the calls that take or return them.
 //! - `reader` is the same as `tree`.

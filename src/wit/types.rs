@@ -606,9 +606,10 @@ impl fmt::Display for Path<'_> {
 
 /// Calls a function with the index of each type in a type of values.
 fn each_type(ty: &DefinedView<'_>, visit: &mut dyn FnMut(u32)) {
-    let mut value = |ty: Option<Val>| match ty {
-        Some(Val::Type(index)) => visit(index),
-        _ => {}
+    let mut value = |ty: Option<Val>| {
+        if let Some(Val::Type(index)) = ty {
+            visit(index);
+        }
     };
     match *ty {
         DefinedView::Record(fields) => fields.for_each(|(_, ty)| value(Some(ty))),

@@ -91,7 +91,8 @@ impl Search {
 
 impl Graph<'_> {
     /// Returns the number of the group of each node: nodes are in one group if each can be reached
-    /// from the other (Tarjan's algorithm). A group has a smaller number than those that lead to it.
+    /// from the other (Tarjan's algorithm). A group has a smaller number than those that lead to
+    /// it.
     fn groups(&self) -> Result<Vec<u32>, Stop> {
         let (groups, low) = (filled(self.len, NONE)?, filled(self.len, NONE)?);
         let mut search = Search { groups, low, open: Vec::new(), found: 0, count: 0 };
