@@ -1,5 +1,5 @@
-"""Makes a component of a world: the official tools make it of the world's text and of a core module,
-which has the functions that they ask for."""
+"""Makes a component of a world: the official tools make it of the world's text and of a core
+module, which has the functions that they ask for."""
 import collections
 import re
 

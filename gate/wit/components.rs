@@ -3,10 +3,10 @@
 //!
 //!     components FOLDER SEED NUMBER
 
+mod random;
 #[allow(dead_code, reason = "texts are for the tests")]
 #[path = "../../programs/wenc-dump/tests/dump/wit/rows.rs"]
 mod rows;
-mod random;
 
 use std::error::Error;
 use std::path::Path;

@@ -3,9 +3,9 @@
 
     judge.py DUMP LINKER CORPUS FOLDER
 
-LINKER is the `wasm-component-ld` of a Rust toolchain, which contains them. Of each component of the
-folder CORPUS, of each wrapped once, twice and three times in one that imports and exports the same,
-and of each in FOLDER:
+LINKER is the `wasm-component-ld` of a Rust toolchain, which contains them. Of each component of
+the folder CORPUS, of each wrapped once, twice and three times in one that imports and exports the
+same, and of each in FOLDER:
 
 - what is printed is read by the parser, and the component type that it makes of it by the validator;
 - if all of the world is printed (status 0), a component is made of the world and of a core module
@@ -84,11 +84,10 @@ class Judge:
             # the linker makes no intrinsics for functions that are asynchronous or have streams
             return "" if re.search(r"\b(async|stream|future|error-context)\b", text) else said
         first, again = parts(text), parts(self.world(component)[1])
-        # of an interface that is imported and exported, the import may have fewer items: only for
-        # the others it needs what is only exported
-        again = {part for part in again if (part[0], part[-1].replace("import", "export")) not in first
-                 or not part[-1].startswith("import ")}
-        return "".join(f"there: {part}\n" for part in sorted(again - first))
+        # An interface that is imported and exported is written once, with all that is exported.
+        # As an import it needs interfaces for it that may only be exported.
+        known = {(*around, line.replace("export ", "import ")) for *around, line in first}
+        return "".join(f"there: {part}\n" for part in sorted(again - first - known))
 
 
 def as_world(text):
@@ -98,13 +97,17 @@ def as_world(text):
     if package.startswith("root:component"):
         return text
     name, _, version = package.partition("@")
-    path = lambda item: f"{name}/{item}" + (f"@{version}" if version else "")
-    own, nested = re.split(r"^(?=package )|\Z", rest, maxsplit=1, flags=re.M)[:2]
+    end = re.search(r"^package |\Z", rest, re.M).start()
+    own, others = rest[:end], rest[end:]
+
+    def path(item):
+        return f"{name}/{item}" + (f"@{version}" if version else "")
+
     used = [f"import {path(item)};" for item in re.findall(r"^interface (\S+) ", own, re.M)]
     used += [f"include {path(item)};" for item in re.findall(r"^world (\S+) ", own, re.M)]
     world = "\n".join(used)
-    rest = rest[len(own):] if nested else ""
-    return f"package judge:judge;\nworld judge {{\n{world}\n}}\npackage {package} {{\n{own}}}\n{rest}"
+    head = f"package judge:judge;\nworld judge {{\n{world}\n}}\n"
+    return f"{head}package {package} {{\n{own}}}\n{others}"
 
 
 def without_places(text):

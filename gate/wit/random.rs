@@ -26,9 +26,8 @@ struct Interface {
     functions: Vec<String>,
 }
 
-const INTERFACES: [&str; 9] = [
-    "a:b/x", "a:b/y", "a:b/z", "c:d/x", "c:d/y", "e:f/x@1.0.0", "e:f/x@2.0.0", "in", "of",
-];
+const INTERFACES: [&str; 9] =
+    ["a:b/x", "a:b/y", "a:b/z", "c:d/x", "c:d/y", "e:f/x@1.0.0", "e:f/x@2.0.0", "in", "of"];
 const NAMES: [&str; 12] =
     ["a", "b", "c", "record", "own-2", "D", "e-F", "type", "a-n1", "f", "g", "list"];
 
@@ -127,7 +126,8 @@ impl Random {
             (Some((resource, _)), kind @ 0..3) => {
                 let method = self.name(&[]);
                 let kind = ["[method]", "[static]", "[constructor]"][kind];
-                let method = if kind == "[constructor]" { String::new() } else { format!(".{method}") };
+                let method =
+                    if kind == "[constructor]" { String::new() } else { format!(".{method}") };
                 format!("{kind}{resource}{method}")
             }
             _ => self.name(&to.named),

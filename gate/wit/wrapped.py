@@ -121,8 +121,8 @@ class Wrapper:
 
 
 def wrap(data):
-    """Returns a component that imports what this one imports, instantiates it with that, and exports
-    what it exports."""
+    """Returns a component that imports what this one imports, instantiates it with that, and
+    exports what it exports."""
     wrapper = Wrapper()
     for kind, whole, reader in sections(data):
         wrapper.add(kind, whole, reader)

@@ -5,11 +5,11 @@ use super::note::{Stop, Why, note};
 use super::types::{Context, Found, Path, Text};
 use super::units::{Named, exports, imports};
 use super::{Writer, Written};
+use crate::ComponentSectionId;
 use crate::scope::{Definition, Meaning, Scope};
 use crate::shim::vec::VecUsing;
 use crate::tree::Space;
 use crate::view::NameView;
-use crate::ComponentSectionId;
 use alloc::string::String;
 use alloc::vec::Vec;
 
@@ -194,36 +194,39 @@ impl<'s, 'a> Writer<'s, 'a, '_> {
 
     /// Gives a resource of the interface or the world its name, before it is written.
     fn resource(&mut self, items: &mut Items<'s, 'a>, number: usize) -> Written {
-        let item = &items.all[number];
-        let (name, of) = (item.name.name, item.of);
-        if item.first as usize != number || !is_id(name) {
+        let Item { name, of, first, .. } = items.all[number];
+        if first as usize != number || !is_id(name.name) {
             return Ok(());
         }
-        self.at(item);
-        let is_own = self.own_resource(name, of);
-        let is_own = match is_own {
-            Ok(_) | Err(Stop::Note(_)) => is_own,
-            Err(stop) => return Err(stop),
-        };
-        let item = &mut items.all[number];
-        (item.is_resource, item.is_done) = (matches!(is_own, Ok(true)), is_own.is_err());
-        if matches!(is_own, Ok(false)) {
-            return Ok(());
+        self.at(&items.all[number]);
+        match self.own_resource(name.name, of) {
+            Ok(false) => Ok(()),
+            Ok(true) => {
+                items.all[number].is_resource = true;
+                self.same_resources(items, number)
+            }
+            Err(Stop::Note(why)) => {
+                items.all[number].is_done = true;
+                self.fail(of)?;
+                let mut next = number as u32;
+                while let Some(twin) = items.twin(number, &mut next) {
+                    self.at(&twin);
+                    self.fail(twin.of)?;
+                }
+                Err(Stop::Note(why))
+            }
+            Err(stop) => Err(stop),
         }
-        if is_own.is_err() {
-            self.fail(of)?;
-        }
-        let mut next = number as u32;
+    }
+
+    /// Gives a resource its name in the other instances of its interface, too.
+    fn same_resources(&mut self, items: &mut Items<'s, 'a>, number: usize) -> Written {
+        let (name, mut next) = (items.all[number].name.name, number as u32);
         while let Some(twin) = items.twin(number, &mut next) {
             self.at(&twin);
-            if is_own.is_err() {
-                self.fail(twin.of)?;
-                continue;
-            }
-            let of = twin.of;
-            let is_same = match self.find(of, true)? {
+            let is_same = match self.find(twin.of, true)? {
                 Found::Name(other) => other == name.into(),
-                _ => match self.own_resource(name, of) {
+                _ => match self.own_resource(name, twin.of) {
                     Ok(is_own) => is_own,
                     Err(Stop::Note(_)) => false,
                     Err(stop) => return Err(stop),
@@ -233,7 +236,7 @@ impl<'s, 'a> Writer<'s, 'a, '_> {
                 self.differs(&twin)?;
             }
         }
-        is_own.map(|_| ())
+        Ok(())
     }
 
     /// Writes an item, unless it is there already.
@@ -371,15 +374,7 @@ impl<'s, 'a> Writer<'s, 'a, '_> {
         if all.is_empty() {
             return self.line(format_args!("resource {};", Id(name)));
         }
-        // what they use is written before the resource
-        if self.local.context.interface.is_none() {
-            for &function in &all {
-                let used = self.put_function(&mut Text::default(), &items.all[function]);
-                if !matches!(used, Err(Stop::Note(_))) {
-                    used?;
-                }
-            }
-        }
+        self.use_of(items, &all)?;
         self.open(format_args!("resource {}", Id(name)))?;
         for function in all {
             let item = &mut items.all[function];
@@ -397,6 +392,20 @@ impl<'s, 'a> Writer<'s, 'a, '_> {
             self.end_item(items, function, (text, written), Self::put_function)?;
         }
         self.close()
+    }
+
+    /// Writes what functions of a resource use in a world, before the resource.
+    fn use_of(&mut self, items: &Items<'s, 'a>, functions: &[usize]) -> Written {
+        if self.local.context.interface.is_some() {
+            return Ok(());
+        }
+        for &function in functions {
+            match self.put_function(&mut Text::default(), &items.all[function]) {
+                Ok(()) | Err(Stop::Note(_)) => {}
+                Err(stop) => return Err(stop),
+            }
+        }
+        Ok(())
     }
 
     /// Appends a function of a resource.

@@ -1,8 +1,9 @@
 //! Definitions by definitions.
 
-use crate::scope::Definition;
-use crate::shim::vec::VecUsing;
 use super::note::Stop;
+use crate::scope::Definition;
+use crate::shim::alloc::Global;
+use crate::shim::vec::VecUsing;
 use alloc::vec::Vec;
 use core::hash::{Hash, Hasher};
 
@@ -14,6 +15,13 @@ pub struct Map<'s, 'a, V> {
     all: Vec<(Definition<'s, 'a>, V)>,
     /// The numbers of the entries, by their hashes; at least half of the slots are free.
     slots: Vec<u32>,
+}
+
+/// Returns a list of this many times the same number.
+pub fn filled(len: usize, value: u32) -> Result<Vec<u32>, Stop> {
+    let mut all = Vec::with_capacity_using(Global, len)?;
+    (0..len).try_for_each(|_| all.push_using(value))?;
+    Ok(all)
 }
 
 impl<V> Default for Map<'_, '_, V> {
@@ -80,10 +88,7 @@ impl<'s, 'a, V: Copy> Map<'s, 'a, V> {
 
     fn grow(&mut self) -> Result<(), Stop> {
         let len = (4 * self.all.len()).max(8).next_power_of_two();
-        let mut slots = Vec::with_capacity_using(crate::shim::alloc::Global, len)
-            .or(Err(Stop::NoMemory))?;
-        slots.resize(len, NONE);
-        self.slots = slots;
+        self.slots = filled(len, NONE)?;
         for number in 0..self.all.len() {
             let slot = self.slot(self.all[number].0);
             self.slots[slot] = number as u32;

@@ -6,11 +6,49 @@ use core::fmt::{self, Display};
 
 /// The keywords of WIT, sorted.
 const KEYWORDS: [&str; 43] = [
-    "as", "async", "bool", "borrow", "char", "constructor", "enum", "error-context", "export",
-    "f32", "f64", "flags", "from", "func", "future", "import", "include", "interface", "list",
-    "map", "option", "own", "package", "record", "resource", "result", "s16", "s32", "s64", "s8",
-    "static", "stream", "string", "tuple", "type", "u16", "u32", "u64", "u8", "use", "variant",
-    "with", "world",
+    "as",
+    "async",
+    "bool",
+    "borrow",
+    "char",
+    "constructor",
+    "enum",
+    "error-context",
+    "export",
+    "f32",
+    "f64",
+    "flags",
+    "from",
+    "func",
+    "future",
+    "import",
+    "include",
+    "interface",
+    "list",
+    "map",
+    "option",
+    "own",
+    "package",
+    "record",
+    "resource",
+    "result",
+    "s16",
+    "s32",
+    "s64",
+    "s8",
+    "static",
+    "stream",
+    "string",
+    "tuple",
+    "type",
+    "u16",
+    "u32",
+    "u64",
+    "u8",
+    "use",
+    "variant",
+    "with",
+    "world",
 ];
 
 /// A name, with `%` before it if it is a keyword.
@@ -55,7 +93,7 @@ pub fn compare(name: &str, other: &str) -> Ordering {
 /// have names alike.
 pub fn compare_labels(name: &str, other: &str) -> Ordering {
     let ((kind, rest), (other, of)) = (label(name), label(other));
-    kind.cmp(&other).then_with(|| compare(rest, of))
+    kind.cmp(other).then_with(|| compare(rest, of))
 }
 
 /// Splits a name into the kind of function that it is of, and the rest.

@@ -8,7 +8,7 @@ use crate::scope::{Definition, Meaning, Scope};
 use crate::shim::string::StringUsing;
 use crate::shim::vec::VecUsing;
 use crate::tree::Space;
-use crate::view::{CaseView, DefinedView, ItemView, TypeView};
+use crate::view::{CaseView, DefinedView, ItemView, ListOf, TypeView};
 use crate::{ComponentTypeRef, ComponentValType as Val, PrimitiveValType, TypeBounds};
 use alloc::string::String;
 use alloc::vec::Vec;
@@ -139,11 +139,7 @@ impl<'s, 'a> Writer<'s, 'a, '_> {
 
     /// Looks a type up by its name here; that of a type that has one, by its name in another
     /// interface, or else.
-    pub fn find(
-        &mut self,
-        of: Definition<'s, 'a>,
-        is_named: bool,
-    ) -> Result<Found<'s, 'a>, Stop> {
+    pub fn find(&mut self, of: Definition<'s, 'a>, is_named: bool) -> Result<Found<'s, 'a>, Stop> {
         self.seen.clear();
         let mut at = if is_named { of } else { self.next_named(of)? };
         let in_interface = self.local.context.interface.is_some();
@@ -180,8 +176,8 @@ impl<'s, 'a> Writer<'s, 'a, '_> {
         imported.or_else(exported)
     }
 
-    /// Appends that a type of another interface is used under this name, for what is at this byte
-    /// offset.
+    /// Appends that a type of another interface is used under this name, for what is at this
+    /// byte offset.
     fn use_type(
         &mut self,
         text: &mut Text,
@@ -229,11 +225,7 @@ impl<'s, 'a> Writer<'s, 'a, '_> {
     }
 
     /// Uses a type of an interface in the world, under a name that isn't there.
-    fn use_in_world(
-        &mut self,
-        of: &Owner<'s, 'a>,
-        place: usize,
-    ) -> Result<TypeName<'a>, Stop> {
+    fn use_in_world(&mut self, of: &Owner<'s, 'a>, place: usize) -> Result<TypeName<'a>, Stop> {
         let original = of.name;
         self.seen.push_using(of.of)?;
         if let Some(name) = self.local.types.get(of.of) {
@@ -314,12 +306,7 @@ impl<'s, 'a> Writer<'s, 'a, '_> {
     }
 
     /// Appends the definition of a type with this name.
-    fn defined_type(
-        &mut self,
-        text: &mut Text,
-        name: &'a str,
-        ty: Definition<'s, 'a>,
-    ) -> Written {
+    fn defined_type(&mut self, text: &mut Text, name: &'a str, ty: Definition<'s, 'a>) -> Written {
         let (scope, place) = (ty.scope(), ty.place());
         let Some(defined) = defined(ty) else { return note(place, Why::TypeKind) };
         match defined {
@@ -343,16 +330,8 @@ impl<'s, 'a> Writer<'s, 'a, '_> {
                 })
             }
             DefinedView::Flags(names) if names.len() > 32 => note(place, Why::Flags),
-            DefinedView::Flags(names) => {
-                self.distinct(place, names)?;
-                let id = |_: &mut Self, text: &mut Text, name: &str| text.id(place, name);
-                self.members(text, ("flags", name, place), names, id)
-            }
-            DefinedView::Enum(names) => {
-                self.distinct(place, names)?;
-                let id = |_: &mut Self, text: &mut Text, name: &str| text.id(place, name);
-                self.members(text, ("enum", name, place), names, id)
-            }
+            DefinedView::Flags(names) => self.names(text, ("flags", name, place), names),
+            DefinedView::Enum(names) => self.names(text, ("enum", name, place), names),
             DefinedView::Own(index) => {
                 text.put(format_args!("type {} = own<", Id(name)))?;
                 self.index(text, scope, index)?;
@@ -365,6 +344,18 @@ impl<'s, 'a> Writer<'s, 'a, '_> {
                 text.put(format_args!(";"))
             }
         }
+    }
+
+    /// Appends a type by the names of its members.
+    fn names(
+        &mut self,
+        text: &mut Text,
+        (kind, name, place): (&str, &str, usize),
+        names: ListOf<'a, &'a str>,
+    ) -> Written {
+        self.distinct(place, names)?;
+        let id = |_: &mut Self, text: &mut Text, name: &str| text.id(place, name);
+        self.members(text, (kind, name, place), names, id)
     }
 
     /// Appends a type by its members.
@@ -432,55 +423,47 @@ impl<'s, 'a> Writer<'s, 'a, '_> {
     }
 
     /// Appends the definition of a type that needs no name.
-    fn unnamed(
-        &mut self,
-        text: &mut Text,
-        of: Definition<'s, 'a>,
-        ty: DefinedView<'a>,
-    ) -> Written {
-        let (scope, place) = (of.scope(), of.place());
+    fn unnamed(&mut self, text: &mut Text, of: Definition<'s, 'a>, ty: DefinedView<'a>) -> Written {
+        let scope = of.scope();
+        if let Some(why) = refusal(scope, ty)? {
+            return note(of.place(), why);
+        }
         let (name, types) = match ty {
             DefinedView::Primitive(ty) => return text.put(format_args!("{ty}")),
-            DefinedView::Tuple(types) if types.len() == 0 => return note(place, Why::Empty),
             DefinedView::Tuple(types) => {
                 text.put(format_args!("tuple"))?;
                 return self.arguments(text, scope, types.map(Some));
             }
             DefinedView::List(ty) => ("list", [Some(ty), None]),
-            DefinedView::FixedLengthList { length: 0, .. } => return note(place, Why::Empty),
             DefinedView::FixedLengthList { element, length } => {
                 text.put(format_args!("list<"))?;
                 self.value(text, scope, element)?;
                 return text.put(format_args!(", {length}>"));
             }
-            DefinedView::Map { key, value } => match key_of(scope, key)? {
-                Some(key) => ("map", [Some(key.into()), Some(value)]),
-                None => return note(place, Why::Key),
-            },
+            // keys have no other names
+            DefinedView::Map { key, value } => {
+                ("map", [primitive(scope, key)?.map(Val::from), Some(value)])
+            }
             DefinedView::Option(ty) => ("option", [Some(ty), None]),
             DefinedView::Result { ok, err } => ("result", [ok, err]),
             DefinedView::Own(index) => return self.index(text, scope, index),
             DefinedView::Borrow(index) => ("borrow", [Some(Val::Type(index)), None]),
             DefinedView::Future(ty) => ("future", [ty, None]),
-            DefinedView::Stream(Some(ty))
-                if primitive(scope, ty)? == Some(PrimitiveValType::Char) =>
-            {
-                return note(place, Why::Element);
-            }
             DefinedView::Stream(ty) => ("stream", [ty, None]),
             DefinedView::Record(_)
             | DefinedView::Variant(_)
             | DefinedView::Flags(_)
-            | DefinedView::Enum(_) => return note(place, Why::Unnamed),
+            | DefinedView::Enum(_) => return note(of.place(), Why::Unnamed),
         };
-        // an absent argument is `_`, or is left out if none follows it
         text.put(format_args!("{name}"))?;
+        // those that are absent are left out if none follows them
         match types.iter().rposition(Option::is_some) {
             Some(last) => self.arguments(text, scope, types.into_iter().take(last + 1)),
             None => Ok(()),
         }
     }
 
+    /// Appends the arguments of a type: `_` for those that are absent.
     fn arguments(
         &mut self,
         text: &mut Text,
@@ -499,8 +482,8 @@ impl<'s, 'a> Writer<'s, 'a, '_> {
         text.put(format_args!(">"))
     }
 
-    /// Appends a function's type. If it is a method, returns whether its first parameter is `self`,
-    /// a handle to this resource that is borrowed, which isn't written.
+    /// Appends a function's type, but for its result. Of a method the first parameter has to be
+    /// `self`, a handle to this resource that is borrowed, which isn't written.
     pub fn signature(
         &mut self,
         text: &mut Text,
@@ -513,42 +496,49 @@ impl<'s, 'a> Writer<'s, 'a, '_> {
         else {
             return note(ty.place(), Why::NotFunction);
         };
-        let (scope, place, mut lead) = (ty.scope(), ty.place(), "");
-        self.distinct(place, params.map(|(name, _)| name))?;
-        if is_async {
-            text.put(format_args!("async "))?;
-        }
-        text.put(format_args!("func("))?;
-        let mut is_first = receiver.is_some();
-        for (name, ty) in params {
-            let start = text.text.len();
-            text.put(format_args!("{lead}"))?;
-            text.id(place, name)?;
-            text.put(format_args!(": "))?;
-            text.start = text.text.len();
-            self.value(text, scope, ty)?;
-            if core::mem::take(&mut is_first) {
-                let first = &text.text[start..];
-                let handle = first.strip_prefix("self: borrow<").and_then(|of| of.strip_suffix('>'));
-                if handle != receiver {
-                    return note(of.place(), Why::Receiver);
-                }
-                text.text.truncate(start);
-            } else {
-                lead = ", ";
-            }
-        }
-        if is_first {
+        self.distinct(ty.place(), params.map(|(name, _)| name))?;
+        text.put(format_args!("{}func(", if is_async { "async " } else { "" }))?;
+        let has_receiver = self.parameters(text, ty, params, receiver)?;
+        if !has_receiver {
             return note(of.place(), Why::Receiver);
         }
         text.put(format_args!(")"))?;
-        let result = match result {
+        let scope = ty.scope();
+        match result {
             Some(Val::Type(index)) if self.borrows(scope.get(Space::Types, index)?)? => {
-                return note(of.place(), Why::Borrowed);
+                note(of.place(), Why::Borrowed)
             }
-            result => result.map(|result| (scope, result)),
-        };
-        Ok(Signature { is_async, result })
+            result => Ok(Signature { is_async, result: result.map(|result| (scope, result)) }),
+        }
+    }
+
+    /// Appends the parameters of a function's type. Returns whether the first is of this receiver.
+    fn parameters(
+        &mut self,
+        text: &mut Text,
+        ty: Definition<'s, 'a>,
+        params: ListOf<'a, (&'a str, Val)>,
+        mut receiver: Option<&str>,
+    ) -> Result<bool, Stop> {
+        let mut lead = "";
+        for (name, param) in params {
+            let start = text.text.len();
+            text.put(format_args!("{lead}"))?;
+            text.id(ty.place(), name)?;
+            text.put(format_args!(": "))?;
+            text.start = text.text.len();
+            self.value(text, ty.scope(), param)?;
+            let Some(resource) = receiver.take() else {
+                lead = ", ";
+                continue;
+            };
+            let handle = text.text[start..].strip_prefix("self: borrow<");
+            if handle.and_then(|of| of.strip_suffix('>')) != Some(resource) {
+                return Ok(false);
+            }
+            text.text.truncate(start);
+        }
+        Ok(receiver.is_none())
     }
 
     /// Appends a result with an arrow before it.
@@ -616,9 +606,10 @@ impl fmt::Display for Path<'_> {
 
 /// Calls a function with the index of each type in a type of values.
 fn each_type(ty: &DefinedView<'_>, visit: &mut dyn FnMut(u32)) {
-    let mut value = |ty: Option<Val>| match ty {
-        Some(Val::Type(index)) => visit(index),
-        _ => {}
+    let mut value = |ty: Option<Val>| {
+        if let Some(Val::Type(index)) = ty {
+            visit(index);
+        }
     };
     match *ty {
         DefinedView::Record(fields) => fields.for_each(|(_, ty)| value(Some(ty))),
@@ -649,10 +640,21 @@ fn primitive(scope: Scope<'_, '_>, ty: Val) -> Result<Option<PrimitiveValType>, 
     }
 }
 
-/// Returns the type of a map's keys, which has no other name.
-fn key_of(scope: Scope<'_, '_>, ty: Val) -> Result<Option<PrimitiveValType>, Stop> {
-    use PrimitiveValType::{ErrorContext, F32, F64};
-    Ok(primitive(scope, ty)?.filter(|ty| !matches!(ty, F32 | F64 | ErrorContext)))
+/// Returns why WIT has no such type.
+fn refusal(scope: Scope<'_, '_>, ty: DefinedView<'_>) -> Result<Option<Why>, Stop> {
+    use PrimitiveValType::{Char, ErrorContext, F32, F64};
+    Ok(match ty {
+        DefinedView::Tuple(types) if types.is_empty() => Some(Why::Empty),
+        DefinedView::FixedLengthList { length: 0, .. } => Some(Why::Empty),
+        DefinedView::Map { key, .. } => match primitive(scope, key)? {
+            None | Some(F32 | F64 | ErrorContext) => Some(Why::Key),
+            Some(_) => None,
+        },
+        DefinedView::Stream(Some(ty)) => {
+            (primitive(scope, ty)? == Some(Char)).then_some(Why::Element)
+        }
+        _ => None,
+    })
 }
 
 /// Returns whether a definition is imported, or exported by what is imported.

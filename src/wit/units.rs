@@ -97,9 +97,9 @@ fn unit_of<'s, 'a>(of: Definition<'s, 'a>) -> Result<Option<Unit<'s, 'a>>, Stop>
     let package = Some(package);
     Ok(match export.space() {
         Some(Space::Instances) => Some(Unit { scope, package, world: None }),
-        Some(Space::Components) => known(export.exports())?
-            .flatten()
-            .map(|scope| Unit { scope, package, world: Some(id) }),
+        Some(Space::Components) => {
+            known(export.exports())?.flatten().map(|scope| Unit { scope, package, world: Some(id) })
+        }
         _ => None,
     })
 }
@@ -201,8 +201,8 @@ impl<'s, 'a> Writer<'s, 'a, '_> {
         Some((package?, name))
     }
 
-    /// Returns the number of the first name `root:component` with a number behind it that no package
-    /// has.
+    /// Returns the number of the first name `root:component` with a number behind it that no
+    /// package has.
     pub fn free_number(&self) -> Result<u32, Stop> {
         let mut taken = Vec::new();
         let packages = self.instances.iter().filter_map(|of| of.package);

@@ -1,17 +1,21 @@
 //! Which interfaces may use types of which others.
 //!
-//! An interface can't depend on itself, nor can a package. An interface that is exported depends on
-//! others as they are exported, or else as they are imported: then these can't depend on one that is
-//! exported (WIT, "`use`" and worlds).
+//! An interface can't depend on itself, nor can a package. An interface that is exported depends
+//! on others as they are exported, or else as they are imported: then these can't depend on one
+//! that is exported (WIT, "`use`" and worlds).
 
+use super::map::filled;
+use super::note::{Stop, known};
 use super::types::{Context, Found, Local};
-use super::{Written, Writer};
+use super::units::{Instance, Owner, exports};
+use super::{Writer, Written};
 use crate::shim::vec::VecUsing;
 use crate::tree::Space;
-use super::note::{Stop, known};
-use super::units::{Instance, Owner, exports};
 use alloc::vec::Vec;
 use core::cmp::Ordering;
+
+/// No number.
+const NONE: u32 = u32::MAX;
 
 /// The groups of interfaces, and of packages, that depend on each other.
 #[derive(Default)]
@@ -44,51 +48,77 @@ struct Graph<'e> {
     edges: &'e [(u32, u32)],
 }
 
+/// A search for groups.
+struct Search {
+    groups: Vec<u32>,
+    /// The least number of a node that each is known to lead to.
+    low: Vec<u32>,
+    /// The nodes without a group.
+    open: Vec<u32>,
+    found: u32,
+    count: u32,
+}
+
+impl Search {
+    /// Returns the number of a node that was found.
+    fn begin(&mut self, node: u32) -> Result<u32, Stop> {
+        self.low[node as usize] = self.found;
+        self.open.push_using(node)?;
+        self.found += 1;
+        Ok(self.found - 1)
+    }
+
+    fn reach(&mut self, node: u32, to: u32) {
+        if self.groups[to as usize] == NONE {
+            self.low[node as usize] = self.low[node as usize].min(self.low[to as usize]);
+        }
+    }
+
+    /// Ends a node, and its group if it is the first of it.
+    fn end(&mut self, node: u32, number: u32) {
+        if self.low[node as usize] != number {
+            return;
+        }
+        while let Some(last) = self.open.pop() {
+            self.groups[last as usize] = self.count;
+            if last == node {
+                break;
+            }
+        }
+        self.count += 1;
+    }
+}
+
 impl Graph<'_> {
     /// Returns the number of the group of each node: nodes are in one group if each can be reached
-    /// from the other (Tarjan's algorithm). A group has a smaller number than those that lead to it.
+    /// from the other (Tarjan's algorithm). A group has a smaller number than those that lead to
+    /// it.
     fn groups(&self) -> Result<Vec<u32>, Stop> {
-        let none = u32::MAX;
-        let (mut groups, mut low) = (filled(self.len, none)?, filled(self.len, none)?);
-        let (mut path, mut open, mut found, mut count) = (Vec::new(), Vec::new(), 0, 0);
+        let (groups, low) = (filled(self.len, NONE)?, filled(self.len, NONE)?);
+        let mut search = Search { groups, low, open: Vec::new(), found: 0, count: 0 };
+        let mut path = Vec::new();
         for root in 0..self.len as u32 {
-            if low[root as usize] != none {
-                continue;
+            if search.low[root as usize] == NONE {
+                path.push_using((root, self.first(root), search.begin(root)?))?;
             }
-            path.push_using((root, self.first(root), found))?;
             while let Some((node, edge, number)) = path.last_mut() {
-                let of = *node as usize;
-                if low[of] == none {
-                    low[of] = found;
-                    found += 1;
-                    open.push_using(*node)?;
-                }
                 match self.edges.get(*edge).filter(|(from, _)| from == node) {
-                    Some(&(_, to)) if low[to as usize] == none => {
-                        path.push_using((to, self.first(to), found))?;
+                    Some(&(_, to)) if search.low[to as usize] == NONE => {
+                        let number = search.begin(to)?;
+                        path.push_using((to, self.first(to), number))?;
                     }
                     Some(&(_, to)) => {
-                        if groups[to as usize] == none {
-                            low[of] = low[of].min(low[to as usize]);
-                        }
+                        search.reach(*node, to);
                         *edge += 1;
                     }
                     None => {
-                        if low[of] == *number {
-                            while let Some(last) = open.pop() {
-                                groups[last as usize] = count;
-                                if last as usize == of {
-                                    break;
-                                }
-                            }
-                            count += 1;
-                        }
+                        search.end(*node, *number);
                         path.pop();
                     }
                 }
             }
         }
-        Ok(groups)
+        Ok(search.groups)
     }
 
     /// Returns the first edge from a node.
@@ -97,15 +127,25 @@ impl Graph<'_> {
     }
 }
 
-fn filled(len: usize, value: u32) -> Result<Vec<u32>, Stop> {
-    let mut all = Vec::with_capacity_using(crate::shim::alloc::Global, len)?;
-    all.resize(len, value);
-    Ok(all)
-}
-
 impl<'s, 'a> Writer<'s, 'a, '_> {
     /// Finds which interfaces depend on which.
     pub fn find_uses(&mut self) -> Written {
+        let edges = self.find_edges()?;
+        let (packages, count) = self.number_packages()?;
+        let depends = self.find_dependencies(&edges, &packages)?;
+        let groups = Graph { len: self.interfaces.len(), edges: &edges }.groups()?;
+        let package_groups = Graph { len: count, edges: &depends }.groups()?;
+        // each before those that depend on it
+        let mut order = filled(self.interfaces.len(), 0)?;
+        (0..).zip(&mut order).for_each(|(number, of)| *of = number);
+        order.sort_unstable_by_key(|number| groups[*number as usize]);
+        let bound = self.find_bound(&edges, &order)?;
+        self.uses = Uses { groups, packages, package_groups, bound };
+        self.find_failed(&order)
+    }
+
+    /// Returns the interfaces with those whose types they use.
+    fn find_edges(&mut self) -> Result<Vec<(u32, u32)>, Stop> {
         let mut edges = Vec::new();
         for at in 0..self.instances.len() {
             let instance = self.instances[at];
@@ -126,15 +166,19 @@ impl<'s, 'a> Writer<'s, 'a, '_> {
             }
         }
         sort(&mut edges);
-        let (packages, count) = self.number_packages()?;
+        Ok(edges)
+    }
+
+    /// Returns the packages with those that they depend on: by their interfaces and their worlds.
+    fn find_dependencies(
+        &self,
+        edges: &[(u32, u32)],
+        packages: &[u32],
+    ) -> Result<Vec<(u32, u32)>, Stop> {
         let mut depends = Vec::new();
-        for &(from, to) in &edges {
-            let pair = (packages[from as usize], packages[to as usize]);
-            if pair.0 != pair.1 {
-                depends.push_using(pair)?;
-            }
+        for &(from, to) in edges {
+            depends.push_using((packages[from as usize], packages[to as usize]))?;
         }
-        // a world of a package depends on the packages of its interfaces
         for instance in &self.instances {
             let unit = self.units[instance.unit as usize];
             let (Some(own), Some(_)) = (unit.package, instance.package) else { continue };
@@ -142,22 +186,13 @@ impl<'s, 'a> Writer<'s, 'a, '_> {
                 other.package.map_or(Ordering::Greater, |package| package.cmp(&own))
             });
             let Ok(of) = of else { continue };
-            let pair = [of, self.interfaces[instance.interface as usize].0];
-            let [of, used] = pair.map(|at| packages[self.instances[at].interface as usize]);
-            if of != used {
-                depends.push_using((of, used))?;
-            }
+            let pair = [self.instances[of].interface, instance.interface];
+            let [of, used] = pair.map(|interface| packages[interface as usize]);
+            depends.push_using((of, used))?;
         }
+        depends.retain(|(of, used)| of != used);
         sort(&mut depends);
-        let groups = Graph { len: self.interfaces.len(), edges: &edges }.groups()?;
-        let package_groups = Graph { len: count, edges: &depends }.groups()?;
-        // each before those that depend on it
-        let mut order = filled(self.interfaces.len(), 0)?;
-        (0..).zip(&mut order).for_each(|(number, of)| *of = number);
-        order.sort_unstable_by_key(|number| groups[*number as usize]);
-        let bound = self.find_bound(&edges, &order)?;
-        self.uses = Uses { groups, packages, package_groups, bound };
-        self.find_failed(&order)
+        Ok(depends)
     }
 
     /// Returns the number of each interface's package, and how many there are.
@@ -189,11 +224,7 @@ impl<'s, 'a> Writer<'s, 'a, '_> {
     }
 
     /// Returns the interfaces that aren't exported by a world and depend on one that is.
-    fn find_bound(
-        &mut self,
-        edges: &[(u32, u32)],
-        order: &[u32],
-    ) -> Result<Vec<(u32, u32)>, Stop> {
+    fn find_bound(&mut self, edges: &[(u32, u32)], order: &[u32]) -> Result<Vec<(u32, u32)>, Stop> {
         let (mut bound, graph) = (Vec::new(), Graph { len: order.len(), edges });
         let mut from = 0;
         while let Some(&(unit, _)) = self.exported.get(from) {

@@ -1,10 +1,10 @@
 //! Worlds as WIT: what is printed of the components of the corpus, beside the WIT that they were
 //! made of, and of others.
 
+mod damaged;
 #[allow(dead_code, reason = "a test needs no `main`")]
 #[path = "../../../../examples/first.rs"]
 mod first;
-mod damaged;
 mod reader;
 mod rows;
 
@@ -187,10 +187,10 @@ fn of_the_readme() {
     let (status, out, _) = dump(&["--wit"], &first::passed_on());
     let readme = Path::new(env!("CARGO_MANIFEST_DIR")).join("../../README.md");
     let readme = fs::read_to_string(readme).expect("it is there");
-    let (_, world) = readme.split_once("\n    world").expect("the world is there");
-    let (world, _) = world.split_once("\n\n").expect("the block ends");
-    let world = format!("world{world}\n").replace("\n    ", "\n");
-    assert_eq!((status, out), (0, format!("package root:component;\n\n{world}")));
+    let (_, printed) = readme.split_once("; of this one\n\n").expect("the world is there");
+    let lines = printed.lines().take_while(|line| line.is_empty() || line.starts_with("    "));
+    let lines: Vec<&str> = lines.map(|line| line.get(4..).unwrap_or_default()).collect();
+    assert_eq!((status, out), (0, format!("{}\n", lines.join("\n").trim_end())));
 }
 
 /// A component with the type `u8`, types that are each of the one before, and a function that takes

@@ -19,7 +19,9 @@ fn parts(text: &str) -> BTreeSet<String> {
             "" => {}
             _ if line.starts_with("//") => {}
             _ => {
-                parts.insert([&around.join(" "), " ", line.trim_end_matches([';', '{', ' '])].concat());
+                parts.insert(
+                    [&around.join(" "), " ", line.trim_end_matches([';', '{', ' '])].concat(),
+                );
             }
         }
         if line.ends_with('{') {

@@ -41,11 +41,7 @@ impl Interface {
         Val::Type(index)
     }
 
-    fn named(
-        &mut self,
-        name: &str,
-        define: impl FnOnce(ComponentDefinedTypeEncoder<'_>),
-    ) -> Val {
+    fn named(&mut self, name: &str, define: impl FnOnce(ComponentDefinedTypeEncoder<'_>)) -> Val {
         let Val::Type(index) = self.defined(define) else { unreachable!() };
         Val::Type(self.same(name, index))
     }
