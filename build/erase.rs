@@ -15,13 +15,13 @@
 //! - *adds*: the import of the shim's prelude, before a file's first item; the derives that
 //!   users of Rust expect of a type ([`known::TREES`], [`known::DERIVED_TOO`]); `Display` and
 //!   `Error` after an enum that derives `Error`; `pub` to `main`; `pub(crate)` to the functions in
-//!   [`WIDENED`]; `#[inline]` to the functions in [`INLINED`], but `#[inline(never)]` to what copies
-//!   the trees in [`APART`]; conditions to the items that exist only with a feature
+//!   [`WIDENED`]; `#[inline]` to the functions in [`INLINED`], but `#[inline(never)]` to what
+//!   copies the trees in [`APART`]; conditions to the items that exist only with a feature
 //!   ([`with_conditions`]);
-//! - *refuses*: a change between the brackets of a macro, which may do anything with a token; an item
-//!   with the name of an allocator; an import that gives a name or brings all; a name that the eraser
-//!   brings in, and another `Iterator`; and everything else that it doesn't know, such as a module
-//!   with a body. No crate is better than one that does something else than was proved.
+//! - *refuses*: a change between the brackets of a macro, which may do anything with a token; an
+//!   item with the name of an allocator; an import that gives a name or brings all; a name that the
+//!   eraser brings in, and another `Iterator`; and everything else that it doesn't know, such as a
+//!   module with a body. No crate is better than one that does something else than was proved.
 //!
 //! All other names stay, and mean what they mean in the shim's prelude, which has Rattle's names
 //! for `std`, the other crates, `Clone`, `Drop`, `format` and so on. No others are in scope, since

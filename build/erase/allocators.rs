@@ -10,8 +10,8 @@ const BOUNDS: [&str; 5] = ["Allocator", "Clone", "Copy", "Drop", "Global"];
 impl Eraser<'_> {
     /// Leaves out allocators where they are parameters, stand for these or have bounds. The others
     /// become `Handed`, which is a type and no value. A name that is an allocator's anywhere in the
-    /// file is one everywhere: where it is declared or imported as something else, or is a variable,
-    /// the file is refused here or doesn't compile.
+    /// file is one everywhere: where it is declared or imported as something else, or is a
+    /// variable, the file is refused here or doesn't compile.
     pub(super) fn allocators(&mut self) -> Result<(), Refused> {
         let is_declared = |i: &usize| {
             let is_bound = self.stands(i + 1, ": Allocator") && self.is_word(*i);
