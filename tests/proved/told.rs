@@ -4,7 +4,7 @@
 use crate::proved::proved_parts::strangers::endings::{with_a_core_type, with_a_type};
 use crate::proved::proved_tests::applied::import_counted;
 use crate::proved::wasm_encoder::{Command, Running, build, producers_command};
-use crate::proved::wenc_base::{Encode, EntityType, Fault, Holder, ProducersSection};
+use crate::proved::wenc_base::{Encode, EntityType, ProducersSection};
 use crate::proved::wenc_builder::ComponentBuilder;
 use crate::proved::wenc_canon::{AddsBuiltin, CanonicalFunctionSection};
 use crate::proved::wenc_list::{ListFault, ProducersParts, Sections, names_in};
@@ -16,7 +16,6 @@ use crate::shim::borrow::CowStr;
 use crate::shim::iter::Members;
 use crate::shim::string::{String, StringUsing};
 use crate::shim::vec::{Vec, VecUsing};
-use std::vec;
 
 const HEADER: &[u8] = b"\0asm\x0d\0\x01\0";
 
@@ -57,17 +56,6 @@ fn custom_sections_by_commands() {
         assert_eq!(built.answers.as_slice(), [Ok(None)]);
         assert_eq!(built.bytes.as_slice(), [HEADER, section].concat());
     }
-}
-
-/// 200 members need a byte more for their count. Pages of zeros that are never read take no memory.
-#[test]
-fn parts_of_the_largest_section() {
-    let mut bytes = vec![0; 1 << 32];
-    bytes.truncate((1 << 32) - 4);
-    let mut holder = Holder::over(bytes, 0, 200);
-    holder.open(&[]).unwrap();
-    holder.append(&[1]).unwrap();
-    assert_eq!(holder.append(&[2]), Err(Fault::TooLarge));
 }
 
 #[test]

@@ -102,6 +102,17 @@ fn members_of_the_largest_section() {
     assert_eq!((bytes.len(), kept, count, is_finished), (4294967294, 0, 3, true));
 }
 
+// The number of 200 members takes two bytes.
+#[test]
+fn parts_of_the_largest_section() {
+    let mut bytes = vec![0; 1 << 32];
+    bytes.truncate((1 << 32) - 4);
+    let mut holder = Holder::over(bytes, 0, 200);
+    holder.open(&[]).unwrap();
+    holder.append(&[1]).unwrap();
+    assert_eq!(holder.append(&[2]), Err(Fault::TooLarge));
+}
+
 const OUTER_TYPE: Alias<'static> =
     Alias::Outer { kind: ComponentOuterAliasKind::Type, count: 0, index: 1 };
 
