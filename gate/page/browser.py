@@ -7,7 +7,8 @@ import subprocess
 import tempfile
 
 PROGRAM = "chromium-headless-shell"
-KEYS = {"ArrowLeft": 37, "ArrowUp": 38, "ArrowRight": 39, "ArrowDown": 40, "Enter": 13, "Escape": 27}
+KEYS = {"ArrowLeft": 37, "ArrowUp": 38, "ArrowRight": 39, "ArrowDown": 40, "Enter": 13,
+        "Escape": 27}
 
 
 class Browser:
@@ -98,7 +99,8 @@ class Browser:
     def mouse(self, element, is_click=True):
         """Moves to the element of this expression, and clicks on it."""
         box = "[r.x + r.width / 2, r.y + r.height / 2]"
-        x, y = self.js(f"(() => {{ const r = {element}.getBoundingClientRect(); return {box}; }})()")
+        place = f"const r = {element}.getBoundingClientRect(); return {box};"
+        x, y = self.js(f"(() => {{ {place} }})()")
         for kind in ("mouseMoved", "mousePressed", "mouseReleased")[: 3 if is_click else 1]:
             is_move = kind == "mouseMoved"
             self("Input.dispatchMouseEvent", type=kind, x=x, y=y,

@@ -12,8 +12,8 @@ use core::ops::Range;
 pub enum Encoded<'a> {
     /// A value begins: the item itself, or one within the value that is open.
     Begin {
-        /// The name of the field that it is; a number in a tuple, and empty for elements of lists and
-        /// for what options and variants have.
+        /// The name of the field that it is; a number in a tuple, and empty for elements of lists
+        /// and for what options and variants have.
         field: &'static str,
         /// The byte offset of its first byte, also if it has none.
         offset: usize,

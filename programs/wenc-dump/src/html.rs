@@ -25,7 +25,7 @@ const SCRIPT: &str = include_str!("html/page.js");
 /// The SHA-256 digests of the style and the script, in base64.
 const HASHES: [&str; 2] = [
     "E/DF2QIhfd8DIrVzkY8IoPC9LQcMrtcYcGm12i3Wmbs=",
-    "KR09imXFWNt9OsEM3yFmXsYDW3wTD2rX9ydYL5OaRtQ=",
+    "YbNwP9ldCv5kSWuKEWkq6/p+0cGdcdzcPckW8nHGkM4=",
 ];
 
 /// The number of bytes of a part without items above which only its ends are on the page, and the
@@ -249,8 +249,8 @@ impl<'d, 'f, 't> Data<'d, 'f, 't> {
         !is_full
     }
 
-    /// Begins a row: the distance to that around it, the byte offset as seen from the row before it,
-    /// the number of bytes, and the kind.
+    /// Begins a row: the distance to that around it, the byte offset as seen from the row before
+    /// it, the number of bytes, and the kind.
     fn row(&mut self, range: &Range<usize>, kind: Kind) -> fmt::Result {
         let around = self.open.last().map_or(0, |open| self.counts.0 - open.row);
         let by = range.start as isize - self.last as isize;
@@ -399,6 +399,7 @@ impl<'d, 'f, 't> Data<'d, 'f, 't> {
     /// Writes the object of the file with this name, whose world is this text.
     pub fn print(mut self, out: &mut dyn Write, name: &str, world: &str) -> io::Result<()> {
         let (size, is_short) = (self.bytes.len(), self.is_short);
+        let places = Places::new(self.values.root).ok_or(io::ErrorKind::OutOfMemory)?;
         write!(out, "{{\"file\":{},\"size\":{size},\"short\":{is_short},", Text(name))?;
         write!(out, "\"words\":[")?;
         for (at, word) in self.words.iter().enumerate() {
@@ -413,8 +414,6 @@ impl<'d, 'f, 't> Data<'d, 'f, 't> {
             write!(out, "{lead}[{place},{cause},{},\"{expected}\"]", Text(message))?;
             lead = ",";
         }
-        let root = self.values.root;
-        let places = Places::new(root).ok_or(io::ErrorKind::OutOfMemory)?;
         let mut lead = "],\n\"wit\":[";
         let world = if world.len() < TEXT { world } else { "// It is too long." };
         places.each_line(world, |line, place| {
@@ -423,7 +422,8 @@ impl<'d, 'f, 't> Data<'d, 'f, 't> {
         out.write_all(if lead == "," { b"" } else { lead.as_bytes() })?;
         // the bytes before each that are cut, and a hash of these
         let (mut from, mut lead, mut left) = (0, "],\n\"bytes\":[", SHOWN);
-        for mut cut in self.cut.iter().cloned().chain([size..size]) {
+        let last = size..size;
+        for mut cut in self.cut.iter().chain([&last]).cloned() {
             if cut.start - from > left {
                 cut = from + left..size;
             }

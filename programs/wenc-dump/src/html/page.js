@@ -242,16 +242,16 @@ const key = (row) => `${row.k} ${row.kind} ${ownName(row) || row.debug || ''}`;
 function align(a, b) {
   [a.other, b.other] = [b, a];
   a.differs = b.differs = (a.content ??= content(a)) !== (b.content ??= content(b));
-  if (!a.differs && a.k !== 'component') { /* the same within, too */ }
   const [left, right] = [a, b].map((row) => row.kids.map((n) => row.file.rows[n]));
   left.concat(right).forEach((row) => { row.content ??= row.k === 'entry' ? row.h + row.debug : content(row); });
   const within = (x, y, ways) => {
     const found = ways.length ? pairs(x, y, ways[0]) : [];
     if (!ways.length) {
       // those of one kind in their order
+      let next = 0;
       for (const row of x) {
-        const match = y.findIndex((other) => !other.other && key(other) === key(row));
-        if (match >= 0) { align(row, y[match]); y = y.slice(match + 1); }
+        const match = y.slice(next, next + 100).findIndex((other) => key(other) === key(row));
+        if (match >= 0) { align(row, y[next + match]); next += match + 1; }
       }
       return;
     }

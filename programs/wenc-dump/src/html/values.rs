@@ -2,11 +2,11 @@
 //!
 //! A shape is a list: a letter for the kind of a value, the name of its field, its own name, and
 //! what it has in the order of the bytes. There a number is one of bytes of its own, a string after
-//! it the numbers of what may stand in each, and a list is a value within it. An item has the number
-//! of its shape, and in the order of its shape the length of a text or of bytes, a number, an index
-//! with the byte offset of its definition, and the length of a list with the values of its elements.
-//! Instead of the byte offset of a definition there is 0 if that isn't known, and -1 - count if the
-//! index is out of range.
+//! it the numbers of what may stand in each, and a list is a value within it. An item has the
+//! number of its shape, and in the order of its shape the length of a text or of bytes, a number,
+//! an index with the byte offset of its definition, and the length of a list with the values of its
+//! elements. Instead of the byte offset of a definition there is 0 if that isn't known, and
+//! -1 - count if the index is out of range.
 
 use super::super::buffer::Buffer;
 use super::super::leaf::expected;
@@ -143,8 +143,8 @@ impl<'d, 'f> Values<'d, 'f> {
         Ok(Self { bytes, root, definitions, shapes, expected, probed, budget })
     }
 
-    /// Returns the number of the shape of an item, and its values. `id` is that of its section, if that
-    /// is one of a component.
+    /// Returns the number of the shape of an item, and its values. `id` is that of its section, if
+    /// that is one of a component.
     pub fn item(
         &mut self,
         id: Option<u8>,
@@ -177,8 +177,8 @@ impl<'d, 'f> Values<'d, 'f> {
     }
 }
 
-/// Writes the byte offset of what an index refers to, as seen from a definition that is in this many
-/// types.
+/// Returns the byte offset of what an index refers to, as seen from a definition that is in this
+/// many types.
 fn target(
     of: Option<Definition>,
     depth: u32,

@@ -53,7 +53,7 @@ fn a_byte_that_is_not_read_is_told() {
 
 #[test]
 fn a_summary_has_no_items() {
-    let nested = [&b"\x04\x17"[..], &component(&FUNCTION)].concat();
+    let nested = [&b"\x04\x17"[..], &component(FUNCTION)].concat();
     let nested = component(&[&nested, &b"\0\x02\x01x"[..]].concat());
     let out = "\
 0x0..0x25 component, 37 bytes
