@@ -1,8 +1,8 @@
 //! Why bytes can't be read, and from which byte on.
 
 use super::Found;
-use crate::{Error, SectionId};
 use crate::proved::wenc_read::{Expected, Refusal};
+use crate::{Error, SectionId};
 use core::fmt;
 use core::iter::FusedIterator;
 use core::ops::RangeInclusive;

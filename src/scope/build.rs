@@ -127,6 +127,8 @@ pub(super) struct Open {
     pub core_funcs: Option<u64>,
     /// The last entry of canonical functions that can't be read, which has the one before it.
     pub unread: u32,
+    /// Whether a section exceeds a component that is open in it, or itself.
+    pub is_exceeded: bool,
 }
 
 /// Converts a number of definitions, which exceeds 32 bits only after memory has run out.
@@ -322,7 +324,8 @@ impl<'a> Reader<'a> {
             let frame = Frame { outer, of, unread: usize::MAX, cut: usize::MAX, ..Frame::EMPTY };
             push(&mut self.all.frames, frame)?;
         }
-        push(&mut self.open, Open { scope, opener, core_funcs: Some(0), unread: NONE })
+        let (core_funcs, unread, is_exceeded) = (Some(0), NONE, false);
+        push(&mut self.open, Open { scope, opener, core_funcs, unread, is_exceeded })
     }
 
     /// Ends the innermost scope, and defines it in the one around it.
@@ -336,8 +339,13 @@ impl<'a> Reader<'a> {
 
     /// Adds a definition to the innermost scope.
     pub fn define(&mut self, entry: Entry) -> Result<(), ReadError> {
+        self.define_at(self.open.len().saturating_sub(1), entry)
+    }
+
+    /// Adds a definition to the scope that is open at this depth.
+    pub fn define_at(&mut self, depth: usize, entry: Entry) -> Result<(), ReadError> {
         self.sizes.entries += 1;
-        let Some(open) = self.open.last_mut() else { return Ok(()) };
+        let Some(open) = self.open.get_mut(depth) else { return Ok(()) };
         if entry.space == Some(Space::CoreFuncs) {
             let count = entry.count().into();
             open.core_funcs = open.core_funcs.map(|funcs| funcs.saturating_add(count));

@@ -20,6 +20,9 @@ impl Reader<'_> {
             self.cut(range.start);
             return Ok(());
         }
+        if error.is_cut() {
+            return self.exceed(range);
+        }
         let section = error.id.and_then(|id| ComponentSectionId::try_from(id).ok());
         // how many canonical functions there are isn't known without their count, nor if the
         // section ends before them: then their count may be what is wrong
@@ -44,6 +47,25 @@ impl Reader<'_> {
             frame.unread = frame.unread.min(entry.place);
         }
         self.define(entry)
+    }
+
+    /// Makes indices unknown from these bytes of a section on that exceeds its component: any of
+    /// the sizes around it may be what is wrong.
+    fn exceed(&mut self, range: Range<usize>) -> Result<(), ReadError> {
+        let entry = Entry::of(range, Form::Unread(None), Role::Unread);
+        for depth in (0..self.open.len()).rev() {
+            let open = &mut self.open[depth];
+            if core::mem::replace(&mut open.is_exceeded, true) {
+                // so is each scope around it
+                break;
+            }
+            (open.core_funcs, open.unread) = (None, NONE);
+            if let Some(frame) = self.all.frames.get_mut(open.scope as usize) {
+                frame.unread = frame.unread.min(entry.place);
+            }
+            self.define_at(depth, entry)?;
+        }
+        Ok(())
     }
 
     /// Ends the innermost scope at this byte offset, from which on nothing of it is read.

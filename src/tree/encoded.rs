@@ -138,7 +138,8 @@ fn each_part(
     visit: &mut dyn FnMut(Encoded<'_>),
 ) -> bool {
     let Some(bytes) = bytes.get(..range.end) else { return false };
-    let mut places = Places { bytes, at: range.start, visit, has_values, is_only: false, is_wrong: false };
+    let mut places =
+        Places { bytes, at: range.start, visit, has_values, is_only: false, is_wrong: false };
     places.value("", Child::new(item, Place::default()));
     !places.is_wrong && places.at == bytes.len()
 }

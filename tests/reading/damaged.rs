@@ -26,8 +26,8 @@ fn is_unread(all: &Instances<'_, '_>, space: Space, index: u32, from: usize) {
     assert!(is_unread, "{space} {index}: {found:x?}");
 }
 
-/// A section whose size is beyond the end, in a component, and at the end of the outermost: what is
-/// in that one isn't known, and what is around it is.
+/// A section whose size is beyond the end, in a component, and at the end of the outermost: what
+/// follows isn't known in either, since the size of the one in it may be what is wrong.
 #[test]
 fn sections_without_an_end() {
     let bad = b"\x0b\x7f\x01";
@@ -38,13 +38,15 @@ fn sections_without_an_end() {
         let scope = all.component();
         is_unread(all, Space::Funcs, 0, 25);
         is_unread(all, Space::Funcs, 1, 25);
-        assert_eq!(scope.count(Space::Funcs), Some(2));
+        assert!(Space::ALL.into_iter().all(|space| scope.count(space).is_none()));
+        assert_eq!(scope.get(Space::Components, 0).map(|of| of.place()), Ok(10));
         let inner = scope.get(Space::Components, 0).unwrap().inner().unwrap();
         assert!(Space::ALL.into_iter().all(|space| inner.count(space).is_none()));
         assert_eq!(inner.get(Space::Types, 0).map(|of| of.place()), Ok(21));
         let unread = ScopeFault::Unread { place: 10, space: Space::Funcs, unread: 25 };
         assert_eq!(inner.export("f", Space::Funcs), Err(unread));
-        assert_eq!(scope.export("f", Space::Funcs), Ok(None));
+        let unread = ScopeFault::Unread { place: 0, space: Space::Funcs, unread: 25 };
+        assert_eq!(scope.export("f", Space::Funcs), Err(unread));
     });
     let import = section(10, b"\x01\0\x01f\x01\0");
     let export = section(11, b"\x01\0\x01g\x01\0\0");

@@ -70,7 +70,10 @@ fn a_text_is_as_long_as_its_limit() {
         assert_eq!(world(&definitions, 1 << 20, &mut whole, &mut |_| {}), Ok(()));
         for limit in 0..whole.len() {
             let (mut text, mut last) = (String::new(), None);
-            assert_eq!(world(&definitions, limit, &mut text, &mut |note| last = Some(note)), Ok(()));
+            assert_eq!(
+                world(&definitions, limit, &mut text, &mut |note| last = Some(note)),
+                Ok(())
+            );
             assert_eq!(last.map(|note| note.why), Some(Why::Limit), "{name}, {limit} bytes");
             let (begin, end) = text.rsplit_once("// ").expect("a comment");
             assert!(begin.trim_end().len() <= limit, "{name}, {limit} bytes: {text}");
