@@ -2,27 +2,18 @@
 //! instances export:
 //!
 //! ```sh
-//! cargo run -r --features walk --example interface -- COMPONENT
+//! cargo run -r --features scope --example interface -- COMPONENT
 //! ```
 //!
 //! `wenc-dump --wit` prints a whole world.
 
 use wenc::ComponentValType as Val;
-use wenc::scope::{Definition, Definitions, Meaning, Scope, ScopeFault};
+use wenc::scope::{Definitions, Meaning, Scope, ScopeFault};
 use wenc::tree::{Node, Space};
 use wenc::view::{DefinedView as Defined, ItemView, TypeView};
 
 /// The maximum depth of what is printed, and its maximum length in bytes.
 const LIMITS: (usize, usize) = (100, 1 << 20);
-
-/// Returns the name of an import or an export.
-fn name_of<'a>(of: Definition<'_, 'a>) -> Option<&'a str> {
-    match of.meaning() {
-        Meaning::Item(ItemView::Import { name, .. } | ItemView::Export { name, .. })
-        | Meaning::Declared { name, .. } => Some(name.name),
-        _ => None,
-    }
-}
 
 /// Adds a type: its name, or its kind and the types in it.
 fn value(text: &mut String, scope: Scope, ty: Val, depth: usize) -> Result<(), ScopeFault> {
@@ -34,11 +25,11 @@ fn value(text: &mut String, scope: Scope, ty: Val, depth: usize) -> Result<(), S
         Val::Type(index) => index,
     };
     let mut ty = scope.get(Space::Types, index)?;
-    while let (None, Some(target)) = (name_of(ty), ty.target()?) {
+    while let (None, Some(target)) = (ty.name(), ty.target()?) {
         ty = target;
     }
     let Meaning::Item(ItemView::Type(TypeView::Defined(defined))) = ty.meaning() else {
-        *text += &format!(" {}", name_of(ty).unwrap_or("resource"));
+        *text += &format!(" {}", ty.name().unwrap_or("resource"));
         return Ok(());
     };
     let types: Vec<Val> = match defined {
@@ -62,7 +53,7 @@ fn value(text: &mut String, scope: Scope, ty: Val, depth: usize) -> Result<(), S
 
 /// Adds what a component imports and exports, or what an instance exports, each in a line.
 fn add(text: &mut String, scope: Scope, depth: usize) -> Result<(), ScopeFault> {
-    for (of, name) in scope.definitions().filter_map(|of| Some((of, name_of(of)?))) {
+    for (of, name) in scope.definitions().filter_map(|of| Some((of, of.name()?))) {
         let is_import = matches!(of.meaning(), Meaning::Item(ItemView::Import { .. }));
         if depth > LIMITS.0 || text.len() > LIMITS.1 || depth > 0 && is_import {
             continue;

@@ -3,6 +3,7 @@
 mod counted;
 mod items;
 mod out_of_range;
+mod outer;
 mod walk;
 
 use crate::proved::wenc_list::{self as proved, SectionRefusal};

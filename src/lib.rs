@@ -32,8 +32,8 @@
 //! With the feature `walk`, [`Sections`] reads a component section by section, and item by item
 //! into values of [`view`], without allocating; a section can be written again byte for byte
 //! ([`SectionReader`]), and [`Walk`] enters nested components and finds indices
-//! that are out of range. [`scope`]
-//! has what each index means, through aliases and exports. With the feature `tree`, [`list`] reads
+//! that are out of range. With the feature `scope`, [`scope`] has what each index means, through
+//! aliases, exports and instances. With the feature `tree`, [`list`] reads
 //! a component into values of [`tree`], from which `tree::build` builds it again, and a section can
 //! be written item by item ([`ItemSection`]). To renumber what was read, `ItemTree::indices_mut`
 //! visits each index that an item contains.
@@ -85,13 +85,13 @@
 //! take longer to compile:
 //!
 //! - `walk` adds the reading of components, whose items borrow from its bytes: [`Sections`],
-//!   [`CoreSections`], [`DebugNames`], [`ProducersReader`], [`scope`], [`view`], and the types of
-//!   [`tree`] that borrowed and owned items share: `Node`, `Space`, `Scope`, `IndexCounts` and core
-//!   types.
-//! - `wit` adds worlds as WIT, `wit`, to `walk`.
+//!   [`CoreSections`], [`DebugNames`], [`ProducersReader`], [`view`], and the types of [`tree`] that
+//!   borrowed and owned items share: `Node`, `Space`, `Scope`, `IndexCounts` and core types.
+//! - `scope` adds what indices mean, to `walk`: [`scope`].
+//! - `wit` adds worlds as WIT, to `scope`: `wit`.
 //! - `tree` adds items that own what they contain, to `walk`: [`list`], [`ItemSection`], the other
 //!   types of [`tree`], and the calls that take or return them.
-//! - `reader` is the same as `tree`.
+//! - `reader` is `scope` and `tree`.
 // Without the features there is nothing to link to but their description.
 #![cfg_attr(not(feature = "tree"), doc = "")]
 #![cfg_attr(not(feature = "tree"), doc = "[`list`]: #features")]
@@ -102,7 +102,7 @@
 #![cfg_attr(not(feature = "walk"), doc = "[`CoreSections`]: #features")]
 #![cfg_attr(not(feature = "walk"), doc = "[`DebugNames`]: #features")]
 #![cfg_attr(not(feature = "walk"), doc = "[`ProducersReader`]: #features")]
-#![cfg_attr(not(feature = "walk"), doc = "[`scope`]: #features")]
+#![cfg_attr(not(feature = "scope"), doc = "[`scope`]: #features")]
 #![cfg_attr(not(feature = "walk"), doc = "[`tree`]: #features")]
 #![cfg_attr(not(feature = "walk"), doc = "[`view`]: #features")]
 // The documentation of `walk` links to types of `tree`.
@@ -148,7 +148,7 @@ mod raw;
 mod read_error;
 #[cfg(feature = "walk")]
 mod rewrite;
-#[cfg(feature = "walk")]
+#[cfg(feature = "scope")]
 pub mod scope;
 // Without `tree`, parts of it aren't used.
 #[cfg_attr(not(feature = "tree"), allow(dead_code, unused_imports))]

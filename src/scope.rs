@@ -1,6 +1,6 @@
 //! What the indices of a component mean.
 //!
-//! Needs the feature `walk`.
+//! Needs the feature `scope`.
 //!
 //! [`Definitions`] reads a component once, with the components that are nested in it and the types
 //! that have index spaces of their own: component types, instance types and module types. Each of
@@ -42,6 +42,7 @@
 
 mod build;
 mod definition;
+mod entry;
 mod fault;
 mod follow;
 mod meaning;
@@ -53,9 +54,10 @@ use crate::tree::Space;
 use alloc::vec::Vec;
 use core::cell::{OnceCell, RefCell};
 use core::fmt;
-use core::iter::{self, FusedIterator};
+use core::iter::FusedIterator;
 
 pub use definition::Definition;
+use entry::{Entry, Frame, Link, Role};
 pub use fault::ScopeFault;
 pub use meaning::Meaning;
 use paths::{At, Paths};
@@ -64,98 +66,50 @@ use users::Users;
 /// No definition, or no scope.
 const NONE: u32 = u32::MAX;
 
-/// An index, or a number of indices, that depends on items that can't be read.
+/// An index that depends on items that can't be read.
 const UNKNOWN: u64 = u64::MAX;
 
 /// The definitions of a component, in all of its scopes.
 ///
-/// Needs the feature `walk`.
+/// Needs the feature `scope`.
 ///
-/// On a 64-bit machine each item, each declaration of a type, and each export or argument in the
-/// list of an instance takes at most 320 bytes of memory, and a scope that isn't at its end 320
-/// more; a list that grows takes up to twice as much. Each byte is read once, and once more for
-/// each type around it. What a definition is the same as is found when it is read, so that
-/// [`resolve`](Definition::resolve) follows any number of exports and aliases in the time of one.
+/// On a 64-bit machine they take at most 40 bytes of memory for each byte of the component, and 1
+/// MB: 36 for each item and declaration and for each member of the list of an instance, 40 for its
+/// scope or list, 60 for its name and what it is the same as, and 72 for each path of instances, of
+/// which there are at most 8192 and one for each 20 bytes. What a definition is the same as is
+/// found when it is read, so that [`resolve`](Definition::resolve) follows any number of exports
+/// and aliases in the time of one. Types that are declared in types, at most 100 deep, are read
+/// once for each type around them. Nothing recurses: nested components may be as deep as `limit`
+/// says, and an instance in at most 100 others can be followed.
+///
+/// ```
+/// use wenc::scope::Definitions;
+/// use wenc::tree::Space;
+///
+/// // an import of a resource
+/// let component = b"\0asm\x0d\0\x01\0\x0a\x06\x01\0\x01r\x03\x01";
+/// let definitions = Definitions::new(component, 100)?;
+/// std::thread::scope(|threads| {
+///     threads.spawn(|| {
+///         let instances = definitions.instances();
+///         assert_eq!(instances.component().count(Space::Types), Some(1));
+///     });
+/// });
+/// # Ok::<(), wenc::ReadError>(())
+/// ```
 pub struct Definitions<'a> {
-    /// In the order in which they are defined: a type after its declarations.
-    entries: Vec<Entry<'a>>,
-    /// In the order in which they begin.
+    bytes: &'a [u8],
+    /// By their scopes, those of each in their order.
+    entries: Vec<Entry>,
+    /// The entries of each scope, sorted by their spaces.
+    order: Vec<u32>,
+    /// In the order in which they begin: a scope before those in it.
     frames: Vec<Frame>,
-    /// The exports of each scope, by their names.
-    names: Vec<(&'a str, u32)>,
-    /// The faults of entries that can't be followed, in the order of the entries.
-    faults: Vec<(u32, ScopeFault)>,
+    /// The exports of each scope, sorted by their names.
+    names: Vec<u32>,
+    links: Vec<Link<'a>>,
     /// The instances that were followed while it was read.
     paths: Paths,
-}
-
-/// A definition.
-struct Entry<'a> {
-    meaning: Meaning<'a>,
-    place: usize,
-    /// The first of its indices.
-    first: u64,
-    /// The number of its indices.
-    count: u32,
-    space: Option<Space>,
-    /// The scope that its own indices belong to.
-    scope: u32,
-    /// The entry of the index before it in its space, or itself if it is the first.
-    previous: u32,
-    /// An earlier entry, through which any is found in a logarithmic number of steps.
-    jump: u32,
-    /// The number of entries in its space that are before it.
-    depth: u32,
-    /// The next definition of the scope, or of the instance's list.
-    next: u32,
-    /// The definition that it is the same as.
-    target: At,
-    /// The last of those that it is the same as: itself if it isn't, or can't be followed.
-    last: At,
-    /// The scope that it opens.
-    inner: u32,
-}
-
-/// A scope, or the list of exports or of arguments in an instance.
-struct Frame {
-    place: usize,
-    /// The scope around it.
-    outer: u32,
-    /// The number of entries before its own, and before those after it.
-    start: u32,
-    end: u32,
-    /// Its first and its last entry.
-    ends: (u32, u32),
-    /// Its exports, in `names`.
-    names: (u32, u32),
-    /// The byte offset of the first exports that can't be read.
-    unread: usize,
-    /// The byte offset from which on nothing is read.
-    cut: usize,
-    /// The newest entry of each space.
-    newest: [u32; Space::ALL.len()],
-}
-
-// What the documentation of `Definitions` states.
-#[cfg(target_pointer_width = "64")]
-const _: () = {
-    assert!(size_of::<(Entry, Frame, (&str, u32), (u32, ScopeFault))>() <= 320);
-    assert!(size_of::<build::Open>() <= 320);
-};
-
-impl Frame {
-    /// A scope without definitions: the outermost if there is no memory for it.
-    const EMPTY: Self = Self {
-        place: 0,
-        outer: NONE,
-        start: 0,
-        end: NONE,
-        ends: (NONE, NONE),
-        names: (0, 0),
-        unread: usize::MAX,
-        cut: usize::MAX,
-        newest: [NONE; Space::ALL.len()],
-    };
 }
 
 impl<'a> Definitions<'a> {
@@ -165,43 +119,33 @@ impl<'a> Definitions<'a> {
         Instances { all: self, paths: RefCell::default(), users: OnceCell::new() }
     }
 
-    fn entry(&self, number: u32) -> &Entry<'a> {
-        &self.entries[number as usize]
+    /// Returns the first entries of a scope that have this rank.
+    fn ranked(&self, scope: u32, before: u32, rank: usize) -> &[u32] {
+        let (start, end) = (self.frame(scope).start as usize, self.end_of(scope) as usize);
+        let all = self.order.get(start..end).unwrap_or_default();
+        let rank_of = |number: &u32| (self.entry(*number).rank(), *number);
+        let from = all.partition_point(|number| rank_of(number) < (rank, 0));
+        let to = all.partition_point(|number| rank_of(number) < (rank, before));
+        &all[from..to.max(from)]
     }
 
-    fn frame(&self, number: u32) -> &Frame {
-        self.frames.get(number as usize).unwrap_or(&Frame::EMPTY)
+    /// Returns the byte offset of what can't be read and makes the indices of a space unknown among
+    /// the first entries.
+    fn unread(&self, scope: u32, before: u32, space: Space) -> Option<usize> {
+        let is_of = |number: &&u32| self.entry(**number).first & 1 << space.number() != 0;
+        let unread = self.ranked(scope, before, 0).iter().find(is_of);
+        let cut = self.frame(scope).cut;
+        let is_cut = cut < usize::MAX && before == NONE;
+        unread.map(|number| self.entry(*number).place).or(is_cut.then_some(cut))
     }
 
-    /// Returns the newest entry of a space that is among the first entries.
-    fn newest(&self, scope: u32, before: u32, space: Space) -> Option<u32> {
-        self.seek(self.frame(scope).newest[space.number()], |number, _| number < before)
-    }
-
-    /// Returns the newest entry, from this one back, that is wanted; all earlier ones are, too.
-    fn seek(&self, mut number: u32, is_wanted: impl Fn(u32, &Entry) -> bool) -> Option<u32> {
-        if number == NONE {
+    /// Returns the number of indices in a space that the first entries define, if it is known.
+    fn count(&self, scope: u32, before: u32, space: Space) -> Option<u64> {
+        if self.unread(scope, before, space).is_some() {
             return None;
         }
-        loop {
-            let entry = self.entry(number);
-            if is_wanted(number, entry) {
-                return Some(number);
-            }
-            if entry.previous == number {
-                return None;
-            }
-            let is_near = is_wanted(entry.jump, self.entry(entry.jump));
-            number = if is_near { entry.previous } else { entry.jump };
-        }
-    }
-
-    /// Returns the number of indices in a space that the first entries define.
-    fn count(&self, scope: u32, before: u32, space: Space) -> u64 {
-        if before == NONE && self.frame(scope).cut < usize::MAX {
-            return UNKNOWN;
-        }
-        self.newest(scope, before, space).map_or(0, |number| self.entry(number).end())
+        let last = self.ranked(scope, before, space.number() + 1).last();
+        Some(last.map_or(0, |number| self.entry(*number).end()))
     }
 
     /// Returns the entry of an index among the first entries, for what is at this byte offset.
@@ -211,34 +155,34 @@ impl<'a> Definitions<'a> {
         space: Space,
         index: u32,
     ) -> Result<u32, ScopeFault> {
-        let newest = self.frame(scope).newest[space.number()];
-        let is_wanted = |number, entry: &Entry| number < before && entry.first <= u64::from(index);
-        let found = self.seek(newest, is_wanted);
-        match found.map(|number| (number, self.entry(number))) {
-            Some((number, entry)) if u64::from(index) < entry.end() => match entry.meaning {
-                Meaning::Unread { .. } => {
-                    Err(ScopeFault::Unread { place, space, unread: entry.place })
-                }
-                _ => Ok(number),
-            },
-            _ => {
-                let unread = self.frame(scope).cut;
-                Err(match self.count(scope, before, space) {
-                    UNKNOWN => ScopeFault::Unread { place, space, unread },
-                    count => ScopeFault::OutOfRange { place, space, index, count },
-                })
+        let all = self.ranked(scope, before, space.number() + 1);
+        let from = all.partition_point(|number| self.entry(*number).first <= index.into());
+        if let Some(number) = from.checked_sub(1).map(|at| all[at]) {
+            let entry = self.entry(number);
+            if u64::from(index) < entry.end() {
+                let fault = ScopeFault::Unread { place, space, unread: entry.place };
+                return if entry.role == Role::Known { Err(fault) } else { Ok(number) };
             }
         }
+        Err(match self.unread(scope, before, space) {
+            Some(unread) => ScopeFault::Unread { place, space, unread },
+            None => {
+                let count = self.count(scope, before, space).unwrap_or_default();
+                ScopeFault::OutOfRange { place, space, index, count }
+            }
+        })
     }
 }
 
-impl<'a> Entry<'a> {
+impl Entry {
+    /// Returns whether this byte offset is one of its own.
+    fn contains(&self, offset: usize) -> bool {
+        (self.place..self.place + self.len as usize).contains(&offset)
+    }
+
     /// Returns the index after its own.
     fn end(&self) -> u64 {
-        match self.meaning {
-            Meaning::Unread { is_known: false, .. } => UNKNOWN,
-            _ => self.first.saturating_add(self.count.into()),
-        }
+        self.first.saturating_add(self.count().into())
     }
 }
 
@@ -251,11 +195,12 @@ impl fmt::Debug for Definitions<'_> {
 
 /// The definitions of a component, with the instances through which they were reached.
 ///
-/// Needs the feature `walk`.
+/// Needs the feature `scope`.
 ///
 /// What is written, [`Definitions`], may be shared by threads, each of which has instances of its
-/// own. Each path of instances that is followed takes at most 64 bytes of memory until these are
-/// dropped; there are at most 4096 paths, and 8 for each definition.
+/// own; definitions of different ones aren't equal. Each path of instances that is followed takes
+/// at most 72 bytes of memory until these are dropped; there are at most 8192 paths, and one for
+/// each 20 bytes of the component.
 pub struct Instances<'s, 'a> {
     all: &'s Definitions<'a>,
     /// The paths that aren't among those of `all`: their numbers follow those.
@@ -270,13 +215,13 @@ impl<'a> Instances<'_, 'a> {
         Scope { all: self, number: 0, before: NONE, place: 0, path: NONE }
     }
 
-    /// Returns the definitions that have an index of this one, as they are written, in the order in
-    /// which they are defined: items, declarations, and exports and arguments in the lists of
-    /// instances. Those that have an index of what is the same as it, such as an alias, aren't among
-    /// them.
+    /// Returns the definitions that have an index of this one, as they are written: items,
+    /// declarations, and exports and arguments in the lists of instances. Those that have an index
+    /// of what is the same as it, such as an alias, aren't among them. They are in their order,
+    /// those in an outer scope before those in it.
     ///
-    /// All users are found by the first call, in linear time, and each call takes the time of its
-    /// own.
+    /// All users are found by the first call, which takes at most 8 bytes of memory for each byte
+    /// of the component, and each other call takes the time of its own.
     ///
     /// ```
     /// use wenc::scope::Definitions;
@@ -303,6 +248,41 @@ impl<'a> Instances<'_, 'a> {
         let users = self.users_of(of)?.iter();
         Ok(users.map(|number| Definition::new(self, At::written(*number))))
     }
+
+    /// Returns the item or the declaration whose bytes contain this byte offset, as it is written:
+    /// the innermost if there are several. `None` if there is none, as in the header of a section.
+    ///
+    /// ```
+    /// use wenc::scope::Definitions;
+    ///
+    /// // a type of instances, which declares the type of a function and exports such a function
+    /// let component = b"\0asm\x0d\0\x01\0\x07\x0e\x01\x42\x02\x01\x40\0\x01\0\x04\0\x01f\x01\0";
+    /// let definitions = Definitions::new(component, 100)?;
+    /// let instances = definitions.instances();
+    /// let of_name = instances.at(21).expect("it is in a declaration");
+    /// assert_eq!((of_name.name(), of_name.range()), (Some("f"), 18..24));
+    /// let count = instances.at(12).expect("it is in the type");
+    /// assert_eq!(count.range(), 11..24);
+    /// assert_eq!(instances.at(9), None);
+    /// # Ok::<(), wenc::ReadError>(())
+    /// ```
+    pub fn at(&self, offset: usize) -> Option<Definition<'_, 'a>> {
+        let (mut scope, mut found) = (0, None);
+        loop {
+            let (start, end) = (self.all.frame(scope).start as usize, self.all.end_of(scope));
+            let entries = self.all.entries.get(start..end as usize)?;
+            let after = entries.partition_point(|entry| entry.place <= offset);
+            let at = after.checked_sub(1);
+            let Some(at) = at.filter(|at| entries[*at].contains(offset)) else {
+                return found;
+            };
+            found = Some(Definition::new(self, At::written((start + at) as u32)));
+            match entries[at].inner() {
+                Some(inner) => scope = inner,
+                None => return found,
+            }
+        }
+    }
 }
 
 impl fmt::Debug for Instances<'_, '_> {
@@ -316,8 +296,29 @@ impl fmt::Debug for Instances<'_, '_> {
 /// The index spaces of a component, or of a type that has some of its own, as a whole or as far as
 /// they are defined before one of their definitions (component model, explainer, "Index Spaces").
 ///
-/// Needs the feature `walk`.
+/// Needs the feature `scope`.
+///
+/// ```
+/// use wenc::scope::{Definitions, ScopeFault};
+/// use wenc::tree::Space;
+///
+/// // the type of a function, an import of a function of that type, and an export of this
+/// let component = b"\0asm\x0d\0\x01\0\x07\x05\x01\x40\0\x01\0\
+///     \x0a\x06\x01\0\x01f\x01\0\x0b\x07\x01\0\x01g\x01\0\0";
+/// let definitions = Definitions::new(component, 100)?;
+/// let instances = definitions.instances();
+/// let scope = instances.component();
+/// assert_eq!((scope.count(Space::Funcs), scope.count(Space::Types)), (Some(2), Some(1)));
+/// let export = scope.export("g", Space::Funcs)?.expect("it is there");
+/// assert_eq!(export.resolve()?, scope.get(Space::Funcs, 0)?);
+/// // what is before the export
+/// assert_eq!(export.scope().count(Space::Funcs), Some(1));
+/// let missing = ScopeFault::OutOfRange { place: 26, space: Space::Funcs, index: 1, count: 1 };
+/// assert_eq!(export.scope().get(Space::Funcs, 1), Err(missing));
+/// # Ok::<(), Box<dyn std::error::Error>>(())
+/// ```
 #[derive(Clone, Copy)]
+#[must_use]
 pub struct Scope<'s, 'a> {
     all: &'s Instances<'s, 'a>,
     number: u32,
@@ -333,13 +334,13 @@ impl<'s, 'a> Scope<'s, 'a> {
     /// Returns the byte offset at which the component begins, or the item or declaration that the
     /// type is.
     pub fn place(self) -> usize {
-        self.all.all.frame(self.number).place
+        let opener = self.all.all.frame(self.number).opener;
+        if opener == NONE { 0 } else { self.all.all.entry(opener).place }
     }
 
     /// Returns the number of indices in a space; `None` if it depends on items that can't be read.
     pub fn count(self, space: Space) -> Option<u64> {
-        let count = self.all.all.count(self.number, self.before, space);
-        (count < UNKNOWN).then_some(count)
+        self.all.all.count(self.number, self.before, space)
     }
 
     /// Returns the instance that it is the scope of; `None` for a scope as it is written.
@@ -374,27 +375,26 @@ impl<'s, 'a> Scope<'s, 'a> {
 
     /// Returns the scope around this one, as it is before it; `None` for the outermost component.
     pub fn outer(self) -> Option<Self> {
-        let &Frame { outer, start, place, .. } = self.all.all.frame(self.number);
+        let &Frame { outer, opener: before, .. } = self.all.all.frame(self.number);
         let path = match self.path {
             NONE => NONE,
             path if self.all.path(path).scope == self.number => self.all.path(path).around,
             path => path,
         };
-        (outer != NONE).then_some(Self { number: outer, before: start, place, path, ..self })
+        let place = self.place();
+        (outer != NONE).then_some(Self { number: outer, before, place, path, ..self })
     }
 
     /// Returns the definitions in their order, with exports, custom sections and others that define
     /// no index.
     pub fn definitions(self) -> impl FusedIterator<Item = Definition<'s, 'a>> {
-        let numbered = move |number: u32| (number < self.before).then_some(number);
-        let first = numbered(self.all.all.frame(self.number).ends.0);
-        let next = move |number: &u32| numbered(self.all.all.entry(*number).next);
-        let numbers = iter::successors(first, next);
-        numbers.map(move |number| self.definition(number))
+        let all = self.all.all;
+        let (start, end) = (all.frame(self.number).start, all.end_of(self.number));
+        (start..end.min(self.before)).map(move |number| self.definition(number))
     }
 
-    /// Returns the first export, declared export or argument with this name in this space; `None` if
-    /// there is none. In a valid component there is at most one.
+    /// Returns the first export, declared export or argument with this name in this space; `None`
+    /// if there is none. In a valid component there is at most one.
     ///
     /// # Errors
     ///

@@ -78,6 +78,7 @@ pub use fields::{IndexCounts, Scopes};
 #[cfg(feature = "tree")]
 pub use indices::IndexUse;
 pub use indices::Scope;
+#[cfg(feature = "scope")]
 pub(crate) use indices::{defined_in_module, space_of};
 pub use node::{Child, Fields, List, Node, UsedIndex};
 // The types of the same names in the crate's root include what proposals add.

@@ -1,17 +1,41 @@
 //! One definition.
 
+use super::entry::{Entry, Role};
 use super::paths::At;
-use super::{Entry, Instances, Meaning, NONE, Scope, ScopeFault};
+use super::{Instances, Meaning, NONE, Scope, ScopeFault};
 use crate::tree::{self, Space, UsedIndex};
-use crate::view::ItemView;
 use core::cmp::Ordering;
 use core::fmt;
 use core::hash::{Hash, Hasher};
+use core::ops::Range;
 
-/// An item or a declaration, or an export or an argument in the list of an instance.
+/// An item or a declaration, or an export or an argument in the list of an instance, with the
+/// instance that it is reached through.
 ///
-/// Needs the feature `walk`.
+/// Needs the feature `scope`.
+///
+/// ```
+/// use wenc::scope::Definitions;
+/// use wenc::tree::Space;
+///
+/// // a type of instances, which declares a resource, imports `a` and `b` of such instances, and an
+/// // alias of the resource of each
+/// let component = b"\0asm\x0d\0\x01\0\x07\x09\x01\x42\x01\x04\0\x01r\x03\x01\
+///     \x0a\x0b\x02\0\x01a\x05\0\0\x01b\x05\0\x06\x0b\x02\x03\0\0\x01r\x03\0\x01\x01r";
+/// let definitions = Definitions::new(component, 100)?;
+/// let instances = definitions.instances();
+/// let resource = |index| instances.component().resolve(Space::Types, index);
+///
+/// // they are declared once, but they are two
+/// let (of_a, of_b) = (resource(1)?, resource(2)?);
+/// assert_eq!((of_a.name(), of_a.range()), (Some("r"), of_b.range()));
+/// assert_ne!(of_a, of_b);
+/// assert_eq!(of_b.instance().and_then(|of| of.name()), Some("b"));
+/// assert_eq!(of_b.origin()?, of_b.instance());
+/// # Ok::<(), Box<dyn std::error::Error>>(())
+/// ```
 #[derive(Clone, Copy)]
+#[must_use]
 pub struct Definition<'s, 'a> {
     all: &'s Instances<'s, 'a>,
     at: At,
@@ -26,19 +50,25 @@ impl<'s, 'a> Definition<'s, 'a> {
         self.at.number
     }
 
-    fn entry(self) -> &'s Entry<'a> {
+    fn entry(self) -> &'s Entry {
         self.all.all.entry(self.at.number)
     }
 
-    /// Returns the item, the declaration or the member of a list that it is.
+    /// Reads the item, the declaration or the member of a list that it is, in the time of its
+    /// length, without its declarations if it is a component type or an instance type.
     pub fn meaning(self) -> Meaning<'a> {
-        self.entry().meaning
+        self.all.all.meaning(self.at.number)
     }
 
-    /// Returns its byte offset, from the start of the outermost component. For an export or an
-    /// argument in the list of an instance it is that of the instance.
+    /// Returns its byte offset, from the start of the outermost component.
     pub fn place(self) -> usize {
         self.entry().place
+    }
+
+    /// Returns its byte offsets in the outermost component.
+    pub fn range(self) -> Range<usize> {
+        let &Entry { place, len, .. } = self.entry();
+        place..place + len as usize
     }
 
     /// Returns the index space of its kind; `None` for a custom section.
@@ -46,41 +76,38 @@ impl<'s, 'a> Definition<'s, 'a> {
         self.entry().space
     }
 
-    /// Returns its index, or the first of several; `None` if it defines none, or if the index depends
-    /// on items that can't be read. A recursion group has one for each of its types, a start function
-    /// one for each of its results.
+    /// Returns its index, or the first of several; `None` if it defines none, or if the index
+    /// depends on items that can't be read. A recursion group has one for each of its types, a
+    /// start function one for each of its results.
     pub fn index(self) -> Option<u32> {
         let entry = self.entry();
-        u32::try_from(entry.first).ok().filter(|_| entry.count > 0)
+        u32::try_from(entry.first).ok().filter(|_| entry.count() > 0)
     }
 
     /// Returns the number of its indices.
     pub fn count(self) -> u32 {
-        self.entry().count
+        self.entry().count()
     }
 
     /// Returns the scope that its own indices belong to, as far as it is defined before this
     /// definition. It doesn't have the types of the same recursion group, which may refer to each
     /// other.
     pub fn scope(self) -> Scope<'s, 'a> {
-        let &Entry { scope: number, place, .. } = self.entry();
-        Scope { all: self.all, number, before: self.at.number, place, path: self.at.path }
+        let ((number, before), place) = (self.all.all.around(self.at.number), self.place());
+        Scope { all: self.all, number, before, place, path: self.at.path }
     }
 
     /// Returns the scope that a component, a component type, an instance type or a module type has,
-    /// as it is written; of an instance the list of its exports or of its arguments, as definitions.
+    /// as it is written; of an instance the list of its exports or of its arguments, as
+    /// definitions.
     pub fn inner(self) -> Option<Scope<'s, 'a>> {
-        let &Entry { inner, place, .. } = self.entry();
-        let scope = Scope { all: self.all, number: inner, before: NONE, place, path: self.at.path };
-        (inner != NONE).then_some(scope)
+        let (number, place) = (self.entry().inner()?, self.place());
+        Some(Scope { all: self.all, number, before: NONE, place, path: self.at.path })
     }
 
     /// Returns the name of an import or an export, also of a declared one, or of an argument.
     pub fn name(self) -> Option<&'a str> {
-        match self.meaning() {
-            Meaning::Item(ItemView::Import { name, .. }) => Some(name.name),
-            meaning => meaning.export(),
-        }
+        self.all.all.link(self.at.number)?.name
     }
 
     /// Calls a function with each index that it has itself, in their order: for a type with index
@@ -97,18 +124,17 @@ impl<'s, 'a> Definition<'s, 'a> {
     /// # Errors
     ///
     /// Those of [`Scope::get`]; [`ScopeFault::OutOfRange`] for the index of a type with spaces of
-    /// its own ([`Scope::Type`](crate::tree::Scope::Type)).
+    /// its own ([`Scope::Type`](crate::tree::Scope::Type)), in which its declarations have theirs.
     pub fn used(self, used: UsedIndex) -> Result<Self, ScopeFault> {
         let UsedIndex { space, scope, index, .. } = used;
         let place = self.place();
         let missing = ScopeFault::OutOfRange { place, space, index, count: 0 };
         let tree::Scope::Component(out) = scope else { return Err(missing) };
-        let own = self.entry().first..self.entry().end();
-        if out == 0 && self.space() == Some(space) && space == Space::CoreTypes {
-            // types of a group may refer to one another
-            if own.contains(&index.into()) {
-                return Ok(self);
-            }
+        // types of a group may refer to one another
+        let is_group = out == 0 && space == Space::CoreTypes && self.space() == Some(space);
+        let own = self.index().map_or(0, |first| index.wrapping_sub(first));
+        if is_group && own < self.count() && self.index().is_some() {
+            return Ok(self);
         }
         let mut scope = self.scope();
         for _ in 0..out {
@@ -117,23 +143,25 @@ impl<'s, 'a> Definition<'s, 'a> {
         scope.get(space, index)
     }
 
-    /// Returns the instance through which it is reached; `None` if it is as it is written. What an
-    /// instance exports by its type is reached through it, too.
+    /// Returns the innermost instance through which it is reached; `None` if it is as it is
+    /// written. What an instance exports by its type is reached through it, too.
     pub fn instance(self) -> Option<Self> {
         let path = (self.at.path != NONE).then(|| self.all.path(self.at.path));
         path.map(|path| Self { at: path.instance, ..self })
     }
 
     /// Returns the import of the outermost component that it comes from, after resolving it: what
-    /// is imported, or exported by it at any depth. `None` if it is defined in the component.
+    /// is imported, or exported by it at any depth. `None` if it is defined in the component. The
+    /// names of the exports on the way are those of the resolved definition and, each by
+    /// [`instance`](Self::instance) of the one before, of its instances, up to the import.
     ///
     /// # Errors
     ///
     /// Those of [`resolve`](Self::resolve).
     pub fn origin(self) -> Result<Option<Self>, ScopeFault> {
         let head = Self { at: At::written(self.all.head(self.resolve()?.at)), ..self };
-        let is_import = matches!(head.meaning(), Meaning::Item(ItemView::Import { .. }));
-        Ok((is_import && head.entry().scope == 0).then_some(head))
+        let &Entry { role, scope, .. } = head.entry();
+        Ok((role == Role::Import && scope == 0).then_some(head))
     }
 
     /// Returns the definition that this one is the same as: the exported or aliased item, the
@@ -146,13 +174,12 @@ impl<'s, 'a> Definition<'s, 'a> {
     ///
     /// Why there is no such definition.
     pub fn target(self) -> Result<Option<Self>, ScopeFault> {
-        let entry = self.entry();
         if let Some(fault) = self.all.all.fault_of(self.at.number) {
             return Err(fault);
         }
         let of = |at| Some(Self { at, ..self });
         if self.at.path == NONE {
-            return Ok((entry.target != At::NONE).then_some(Self { at: entry.target, ..self }));
+            return Ok(self.all.all.target_of(self.at.number).and_then(of));
         }
         self.all.target_through(self.at).map(|at| at.and_then(of))
     }
@@ -180,7 +207,10 @@ impl<'s, 'a> Definition<'s, 'a> {
     /// Why this definition or its type can't be followed.
     pub fn ty(self) -> Result<Option<Self>, ScopeFault> {
         let of = self.resolve()?;
-        let Some((space, index)) = of.meaning().type_index() else { return Ok(None) };
+        let ty = of.all.all.type_of(of.at.number);
+        let Some((space, index)) = ty.or_else(|| of.meaning().type_index()) else {
+            return Ok(None);
+        };
         of.scope().resolve(space, index).map(Some)
     }
 

@@ -6,7 +6,7 @@ use core::fmt;
 /// Why an index can't be followed to its definition. A place is the byte offset of the item or
 /// declaration that has the index, from the start of the outermost component.
 ///
-/// Needs the feature `walk`.
+/// Needs the feature `scope`.
 ///
 /// It isn't an [`Error`](crate::Error), which is about encoding.
 #[derive(Clone, Copy, Debug, PartialEq, Eq)]
@@ -56,7 +56,8 @@ pub enum ScopeFault {
         /// The space of the component, the instance or the core module.
         space: Space,
     },
-    /// It is reached through more than 100 instances, or in too many steps.
+    /// It is reached through more than 100 instances, or in more than 2000 steps, or there are too
+    /// many instances (see [`Definitions`](super::Definitions)).
     TooDeep {
         /// The byte offset of the item that refers to it.
         place: usize,

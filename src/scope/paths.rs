@@ -6,16 +6,16 @@
 //! a number: equal paths have equal numbers.
 //!
 //! What an entry is the same as is found once, when it is read, as if the imports of its component
-//! were unknown (`Entry::last`). Through an instance this is moved to the path of the instance: the
+//! were unknown (`Target`). Through an instance this is moved to the path of the instance: the
 //! first of its instances, or itself if it has none, may be an import for which there is an
 //! argument, and everything behind that is then looked for by name.
 
+use super::entry::{Entry, Role, Target};
 use super::meaning::Same;
-use super::{Instances, Meaning, NONE, ScopeFault};
+use super::{Instances, NONE, ScopeFault};
+use crate::ReadError;
 use crate::shim::vec::VecUsing;
 use crate::tree::Space;
-use crate::view::{CoreInstanceView, CoreTypeView, InstanceView, ItemView, TypeView};
-use crate::{ComponentTypeRef, ReadError};
 use alloc::vec::Vec;
 
 /// The maximum number of instances in a path.
@@ -25,10 +25,11 @@ const DEPTH: u32 = 100;
 const STEPS: u32 = 2000;
 
 /// The maximum number of steps that wait for others.
-const TODO: usize = 256;
+const TODO: usize = 128;
 
-/// The number of paths that there may be, without and for each entry.
-const PATHS: (usize, usize) = (1 << 12, 8);
+/// The number of paths that there may be in any component, and the number of bytes for each other
+/// one.
+const PATHS: (usize, usize) = (1 << 13, 20);
 
 /// An entry with the path of instances through which it is reached: `NONE` for an entry as it is
 /// written, in no instance of its component.
@@ -39,8 +40,6 @@ pub(super) struct At {
 }
 
 impl At {
-    pub const NONE: Self = Self::written(NONE);
-
     pub const fn written(number: u32) -> Self {
         Self { path: NONE, number }
     }
@@ -95,9 +94,8 @@ impl Paths {
 
     fn add(&mut self, path: Path) -> Result<u32, ReadError> {
         if self.table.len() <= 2 * self.all.len() {
-            let (mut table, len) = (Vec::new(), (4 * self.all.len()).next_power_of_two().max(8));
-            table.try_reserve_exact(len).map_err(|_| ReadError::memory())?;
-            table.resize(len, NONE);
+            let len = (4 * self.all.len()).next_power_of_two().max(8);
+            let mut table = super::build::repeated(NONE, len)?;
             for (number, path) in (0..).zip(&self.all) {
                 let slot = Self::slot(&table, &self.all, path.instance);
                 table[slot] = number;
@@ -160,8 +158,8 @@ impl Instances<'_, '_> {
     pub(super) fn path_of(&self, mut path: u32, number: u32) -> u32 {
         while path != NONE {
             let Path { scope, around, .. } = self.path(path);
-            let frame = self.all.frame(scope);
-            if (frame.start..frame.end).contains(&number) {
+            let within = scope..self.all.frame(scope).until;
+            if within.contains(&self.all.entry(number).scope) {
                 break;
             }
             path = around;
@@ -184,54 +182,55 @@ impl Instances<'_, '_> {
     /// Returns the argument for an import, if it is one of the component that this path's instance
     /// is of.
     fn argument(&self, path: u32, number: u32) -> Option<At> {
-        let (Meaning::Item(ItemView::Import { name, .. }), true) =
-            (self.all.entry(number).meaning, path != NONE)
-        else {
+        let &Entry { role, scope: of, space, .. } = self.all.entry(number);
+        if role != Role::Import || path == NONE {
             return None;
-        };
+        }
         let Path { instance, scope, .. } = self.path(path);
-        let of = self.all.entry(instance.number);
-        let Meaning::Item(ItemView::Instance(InstanceView::Instantiate { .. })) = of.meaning else {
+        let &Entry { role, more: list, .. } = self.all.entry(instance.number);
+        if role != Role::Instantiate || of != scope {
             return None;
-        };
-        let space = self.all.entry(number).space?;
-        let argument = self.all.named(of.inner, name.name, space)?;
-        (self.all.entry(number).scope == scope)
-            .then_some(At { path: instance.path, number: argument })
+        }
+        let argument = self.all.named(list, self.all.link(number)?.name?, space?)?;
+        Some(At { path: instance.path, number: argument })
     }
 
-    /// Returns the definition that this one, which is reached through instances, is the same as: the
-    /// next one, not the last.
+    /// Returns the definition that this one, which is reached through instances, is the same as:
+    /// the next one, not the last.
     pub(super) fn target_through(&self, at: At) -> Result<Option<At>, ScopeFault> {
-        let &super::Entry { meaning, scope, place, target, .. } = self.all.entry(at.number);
         if let Some(argument) = self.argument(at.path, at.number) {
             return Ok(Some(argument));
         }
-        match meaning.same() {
-            None => Ok(None),
-            Some(Same::Index(..)) if target.path == NONE && target.number != NONE => {
-                let path = self.path_of(at.path, target.number);
-                Ok(Some(At { path, number: target.number }))
-            }
-            Some(Same::Index(..)) => Ok(None),
-            Some(Same::Export((space, index), name, of)) => {
-                let number = self.all.find((scope, at.number, place), space, index)?;
-                let instance = self.value(At { path: at.path, number }, place)?;
-                self.export_in(instance, name, of, place)
-            }
+        let &Entry { role, place, .. } = self.all.entry(at.number);
+        if role != Role::Alias {
+            let target = self.all.target_of(at.number).map(|target| target.number);
+            return Ok(target.map(|number| At { path: self.path_of(at.path, number), number }));
         }
+        let Some(Same::Export((space, index), name, of)) = self.all.meaning(at.number).same()
+        else {
+            return Ok(None);
+        };
+        let (scope, before) = self.all.around(at.number);
+        let number = self.all.find((scope, before, place), space, index)?;
+        let instance = self.value(At { path: at.path, number }, place)?;
+        self.export_in(instance, name, of, place)
     }
 
     /// Returns the type that an import or a declared export is the same as if it isn't replaced. In
-    /// the outermost component this is its `last`.
+    /// the outermost component this is its last one.
     fn bound(&self, number: u32) -> Option<u32> {
-        let &super::Entry { meaning, target, last, .. } = self.all.entry(number);
-        let is_bound = meaning.is_bound() && last == At::written(number);
-        (is_bound && target != At::NONE).then_some(target.number)
+        let &Entry { role, scope, .. } = self.all.entry(number);
+        if !matches!(role, Role::Import | Role::Declared) || scope == 0 {
+            return None;
+        }
+        match self.all.link(number)?.target {
+            Target::As(target, _) => Some(target.number),
+            _ => None,
+        }
     }
 
-    /// Returns what an entry is the same as that is stored for it: a type that may be replaced isn't
-    /// followed, since it has a name by which it is found again.
+    /// Returns what an entry is the same as that is stored for it: a type that may be replaced
+    /// isn't followed, since it has a name by which it is found again.
     pub(super) fn stored(&self, at: At, place: usize) -> Result<At, ScopeFault> {
         self.follow(at, &mut Waiting::default(), place, false)
     }
@@ -277,29 +276,43 @@ impl Instances<'_, '_> {
                     }
                     None => at = instance,
                 },
-                Some(Todo::Member(number)) => match self.opened(at)? {
-                    Opened::Path(path) if self.path(path).scope == self.all.entry(number).scope => {
-                        at = At { path, number };
-                    }
-                    Opened::Path(_) | Opened::List(_) => {
-                        let &super::Entry { meaning, space, .. } = self.all.entry(number);
-                        let (Some(name), Some(space)) = (meaning.export(), space) else {
-                            return Err(ScopeFault::TooDeep { place });
-                        };
-                        let found = self.export_in(at, name, space, place)?;
-                        let missing = ScopeFault::NoExport { place, space };
-                        (at, is_found) = (found.ok_or(missing)?, false);
-                    }
-                    Opened::By(by) => {
-                        todo.push(Todo::Member(number), place)?;
-                        todo.push(Todo::Open(at), place)?;
-                        (at, is_found) = (by, false);
-                    }
-                    Opened::Unknown => return Err(ScopeFault::TooDeep { place }),
-                },
+                Some(Todo::Member(number)) => {
+                    (at, is_found) = self.member(at, number, todo, place)?;
+                }
             }
         }
         Err(ScopeFault::TooDeep { place })
+    }
+
+    /// Returns an entry of an instance, and whether it is the last one that it is the same as; what
+    /// is to be found before it, if the exports of the instance aren't known yet.
+    fn member(
+        &self,
+        at: At,
+        number: u32,
+        todo: &mut Waiting,
+        place: usize,
+    ) -> Result<(At, bool), ScopeFault> {
+        let of = self.all.entry(number);
+        match self.opened(at)? {
+            Opened::Path(path) if self.path(path).scope == of.scope => {
+                Ok((At { path, number }, true))
+            }
+            Opened::Path(_) | Opened::List(_) => {
+                let name = self.all.link(number).and_then(|link| link.name);
+                let (Some(name), Some(space)) = (name, of.space) else {
+                    return Err(ScopeFault::TooDeep { place });
+                };
+                let found = self.export_in(at, name, space, place)?;
+                Ok((found.ok_or(ScopeFault::NoExport { place, space })?, false))
+            }
+            Opened::By(by) => {
+                todo.push(Todo::Member(number), place)?;
+                todo.push(Todo::Open(at), place)?;
+                Ok((by, false))
+            }
+            Opened::Unknown => Err(ScopeFault::TooDeep { place }),
+        }
     }
 
     /// Returns where the exports of an instance are, or of a component, which has those of an
@@ -308,57 +321,50 @@ impl Instances<'_, '_> {
         if let Some(path) = self.known(at) {
             return Ok(Opened::Path(path));
         }
-        let &super::Entry { meaning, inner, scope, place, .. } = self.all.entry(at.number);
+        let &Entry { role, more, space, place, .. } = self.all.entry(at.number);
         let by = |space, index| {
-            let number = self.all.find((scope, at.number, place), space, index)?;
+            let (scope, before) = self.all.around(at.number);
+            let number = self.all.find((scope, before, place), space, index)?;
             Ok(Opened::By(At { path: at.path, number }))
         };
-        match meaning {
-            Meaning::Item(ItemView::Instance(InstanceView::Instantiate { component, .. })) => {
-                by(Space::Components, component)
+        match (role, space) {
+            (Role::Instantiate, Some(Space::CoreInstances)) => {
+                by(Space::CoreModules, self.all.frame(more).of)
             }
-            Meaning::Item(ItemView::CoreInstance(CoreInstanceView::Instantiate {
-                module, ..
-            })) => by(Space::CoreModules, module),
-            Meaning::Item(ItemView::Instance(_) | ItemView::CoreInstance(_)) => {
-                Ok(Opened::List(inner))
-            }
-            Meaning::Item(ItemView::Component(_) | ItemView::Type(_) | ItemView::CoreType(_))
-                if inner != NONE =>
-            {
+            (Role::Instantiate, _) => by(Space::Components, self.all.frame(more).of),
+            (Role::List, _) => Ok(Opened::List(more)),
+            (Role::Component | Role::ComponentType | Role::InstanceType | Role::ModuleType, _) => {
                 Ok(Opened::By(at))
             }
-            _ => match (meaning.type_ref(), meaning.type_index()) {
-                (Some(ComponentTypeRef::Func(_)), _) | (None, _) | (_, None) => Ok(Opened::Unknown),
-                (Some(_), Some((space, index))) => by(space, index),
-            },
+            (_, Some(Space::Instances | Space::Components | Space::CoreModules)) => {
+                let ty = self.all.type_of(at.number);
+                ty.map_or(Ok(Opened::Unknown), |(space, index)| by(space, index))
+            }
+            _ => Ok(Opened::Unknown),
         }
     }
 
     /// Adds the path of an instance with this component, module or type; if it has a type, returns
     /// that instead.
     fn open(&self, instance: At, of: At, place: usize) -> Result<Option<At>, ScopeFault> {
-        let &super::Entry { meaning, inner, scope, place: at, .. } = self.all.entry(of.number);
+        let &Entry { role, more: inner, space, place: at, .. } = self.all.entry(of.number);
         let wanted = self.all.entry(instance.number);
-        let declared = wanted.meaning.type_ref();
-        let is_wanted = match (meaning, declared) {
-            (Meaning::Item(ItemView::Component(_)), None) => true,
-            (Meaning::Item(ItemView::Type(TypeView::Component(_))), declared) => !matches!(
-                declared,
-                Some(ComponentTypeRef::Instance(_) | ComponentTypeRef::Module(_))
-            ),
-            (Meaning::Item(ItemView::Type(TypeView::Instance(_))), declared) => {
-                matches!(declared, Some(ComponentTypeRef::Instance(_))) || instance == of
+        // the space of what has a type
+        let declared = self.all.type_of(instance.number).and(wanted.space);
+        let is_wanted = match (role, declared) {
+            (Role::Component, None) => true,
+            (Role::ComponentType, declared) => {
+                matches!(declared, None | Some(Space::Components))
             }
-            (Meaning::Item(ItemView::CoreType(CoreTypeView::Module(_))), declared) => {
-                matches!(declared, Some(ComponentTypeRef::Module(_)) | None)
+            (Role::InstanceType, declared) => declared == Some(Space::Instances) || instance == of,
+            (Role::ModuleType, declared) => matches!(declared, None | Some(Space::CoreModules)),
+            (Role::Plain, None) if space == Some(Space::CoreModules) => {
+                return Err(ScopeFault::Opaque { place });
             }
-            (Meaning::Item(ItemView::Module(_)), None) => return Err(ScopeFault::Opaque { place }),
             (_, None) => {
-                let Some((space, index)) = meaning.type_index() else {
-                    return Err(ScopeFault::Opaque { place });
-                };
-                let number = self.all.find((scope, of.number, at), space, index)?;
+                let ty = self.all.type_of(of.number).ok_or(ScopeFault::Opaque { place })?;
+                let (scope, before) = self.all.around(of.number);
+                let number = self.all.find((scope, before, at), ty.0, ty.1)?;
                 return Ok(Some(At { path: of.path, number }));
             }
             _ => false,
@@ -375,7 +381,7 @@ impl Instances<'_, '_> {
         };
         let mut paths = self.paths.borrow_mut();
         let len = self.all.paths.all.len() + paths.all.len();
-        if depth > DEPTH || len >= PATHS.0 + PATHS.1 * self.all.entries.len() {
+        if depth > DEPTH || len >= PATHS.0 + self.all.bytes.len() / PATHS.1 {
             return Err(ScopeFault::TooDeep { place });
         }
         let path = Path { instance, scope: inner, around: of.path, head, depth };
@@ -421,8 +427,8 @@ impl Instances<'_, '_> {
             return Ok(Some(At { path, number }));
         }
         let unread = self.all.frame(scope).unread;
-        Err(match self.all.exports_named(scope, name).first() {
-            Some(&(_, number)) => {
+        Err(match self.all.export_named(scope, name) {
+            Some(number) => {
                 let found = self.all.entry(number).space.unwrap_or(space);
                 ScopeFault::OtherExport { place, space, found }
             }

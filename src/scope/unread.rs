@@ -1,65 +1,56 @@
 //! Items that can't be read, and the indices after them.
 
+use super::NONE;
 use super::build::Reader;
-use super::{Meaning, NONE, UNKNOWN};
+use super::entry::{Entry, Form, Role};
 use crate::tree::{Scope, Space};
 use crate::view::ItemView;
-use crate::{ComponentSectionId, Part, ReadError};
+use crate::{Cause, ComponentSectionId, Part, ReadError};
+use core::ops::Range;
 
 impl Reader<'_> {
-    /// Adds what isn't read from this byte offset on, with this number of items; their number isn't
-    /// known if they are behind the last item by the section's count.
-    pub fn unread(&mut self, error: &ReadError, place: usize, count: u32) -> Result<(), ReadError> {
-        let id = error.id.filter(|_| error.part != Part::Depth);
-        let (Some(Ok(section)), Some(open)) =
-            (id.map(ComponentSectionId::try_from), self.open.last_mut())
-        else {
-            return self.unknown(place);
-        };
-        // how many canonical functions there are isn't known without their count
-        let is_canonical = section == ComponentSectionId::CanonicalFunction && count > 0;
-        let frame = &mut self.all.frames[open.scope as usize];
-        if is_canonical {
-            open.assumed.get_or_insert(open.counts);
-        } else if section == ComponentSectionId::Export {
-            frame.unread = frame.unread.min(place);
+    /// Adds what isn't read in these bytes, with this number of items.
+    pub fn unread(
+        &mut self,
+        error: &ReadError,
+        range: Range<usize>,
+        count: u32,
+    ) -> Result<(), ReadError> {
+        if matches!(error.part, Part::Depth | Part::Header) {
+            self.cut(range.start);
+            return Ok(());
         }
-        for &space in section.spaces() {
-            let count = if is_canonical && space == Space::CoreFuncs { count } else { 0 };
-            let section = Some(section);
-            let meaning = Meaning::Unread { section, space, count, is_known: false };
-            self.define(place, meaning, NONE)?;
-        }
-        if let Some(open) = self.open.last_mut() {
-            open.counts.add_unread(section);
-            open.assumed.iter_mut().filter(|_| !is_canonical).for_each(|of| of.add_unread(section));
-        }
-        Ok(())
-    }
-
-    /// Adds what may be items of any kind at this byte offset.
-    fn unknown(&mut self, place: usize) -> Result<(), ReadError> {
+        let section = error.id.and_then(|id| ComponentSectionId::try_from(id).ok());
+        // how many canonical functions there are isn't known without their count, nor if the
+        // section ends before them: then their count may be what is wrong
+        let is_early = matches!(error.cause, Cause::Few { .. }) && range.is_empty();
+        let is_canonical = section == Some(ComponentSectionId::CanonicalFunction)
+            && matches!(error.part, Part::Item(_))
+            && !is_early;
         let Some(open) = self.open.last_mut() else { return Ok(()) };
-        let frame = &mut self.all.frames[open.scope as usize];
-        frame.unread = frame.unread.min(place);
-        for space in Space::ALL {
-            let meaning = Meaning::Unread { section: None, space, count: 0, is_known: false };
-            self.define(place, meaning, NONE)?;
+        let mut entry = Entry::of(range, Form::Unread(section), Role::Unread);
+        if is_canonical {
+            // the entry before it, until it is known
+            let before = core::mem::replace(&mut open.unread, self.all.entries.len() as u32);
+            (entry.more, entry.first) = (count, before.into());
+            open.core_funcs = open.core_funcs.map(|all| all.saturating_add(count.into()));
+        } else if section.is_none_or(|section| section.spaces().contains(&Space::CoreFuncs)) {
+            (open.core_funcs, open.unread) = (None, NONE);
         }
-        if let Some(open) = self.open.last_mut() {
-            open.counts.add_unknown();
-            open.assumed = None;
+        let frame = self.all.frames.get_mut(open.scope as usize);
+        if let Some(frame) =
+            frame.filter(|_| matches!(section, None | Some(ComponentSectionId::Export)))
+        {
+            frame.unread = frame.unread.min(entry.place);
         }
-        Ok(())
+        self.define(entry)
     }
 
-    /// Ends all scopes at this byte offset, from which on nothing is read, for lack of memory or of a
-    /// header.
-    pub fn cut(&mut self, place: usize) {
-        for open in &self.open {
-            let frame = &mut self.all.frames[open.scope as usize];
-            frame.unread = frame.unread.min(place);
-            frame.cut = place;
+    /// Ends the innermost scope at this byte offset, from which on nothing of it is read.
+    fn cut(&mut self, place: usize) {
+        let scope = self.open.last().map(|open| open.scope as usize);
+        if let Some(frame) = scope.and_then(|scope| self.all.frames.get_mut(scope)) {
+            (frame.unread, frame.cut) = (frame.unread.min(place), place);
         }
     }
 
@@ -67,33 +58,19 @@ impl Reader<'_> {
     /// refers to the last one that there is then.
     pub fn settle(&mut self, item: &ItemView<'_>) {
         let Some(open) = self.open.last_mut() else { return };
-        let Some(assumed) = open.assumed else { return };
-        let (end, mut is_last) = (assumed.of(Space::CoreFuncs), false);
+        let Some(end) = open.core_funcs.filter(|_| open.unread != NONE) else { return };
+        let mut is_last = false;
         item.node().each_index(|of| {
             let is_own = (of.space, of.scope) == (Space::CoreFuncs, Scope::Component(0));
             is_last |= is_own && u64::from(of.index) + 1 == end;
         });
-        if is_last {
-            (open.counts, open.assumed) = (assumed, None);
-            let newest = self.all.frames[open.scope as usize].newest;
-            for space in [Space::CoreFuncs, Space::Funcs] {
-                self.number(newest[space.number()], assumed.of(space));
-            }
+        if !is_last {
+            return;
         }
-    }
-
-    /// Numbers the entries of a space up to this one, whose indices weren't known and end here.
-    fn number(&mut self, mut number: u32, mut end: u64) {
-        while let Some(entry) = self.all.entries.get_mut(number as usize).filter(|_| end < UNKNOWN)
-        {
-            if let Meaning::Unread { is_known, .. } = &mut entry.meaning {
-                *is_known = true;
-            }
-            if entry.first < UNKNOWN {
-                break;
-            }
-            end = end.saturating_sub(entry.count.into());
-            (entry.first, number) = (end, entry.previous);
+        let mut number = core::mem::replace(&mut open.unread, NONE);
+        while let Some(entry) = self.all.entries.get_mut(number as usize) {
+            number = u32::try_from(entry.first).unwrap_or(NONE);
+            (entry.role, entry.space) = (Role::Known, Some(Space::CoreFuncs));
         }
     }
 }

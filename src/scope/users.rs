@@ -1,7 +1,9 @@
 //! Which definitions have an index of another one.
 
+use super::build::repeated;
 use super::paths::At;
 use super::{Definition, Instances, ScopeFault};
+use crate::ReadError;
 use alloc::vec::Vec;
 
 /// The users of all entries.
@@ -24,8 +26,10 @@ impl<'a> Instances<'_, 'a> {
                 self.users.get_or_init(|| users)
             }
         };
-        let start = number.checked_sub(1).map_or(0, |before| users.ends[before]);
-        Ok(&users.all[start as usize..users.ends[number] as usize])
+        let end_of = |number: usize| users.ends.get(number).map_or(0, |end| *end as usize);
+        let start = number.checked_sub(1).map_or(0, end_of);
+        // one of another component may have none here
+        Ok(users.all.get(start..end_of(number)).unwrap_or_default())
     }
 
     /// Calls a function with each entry that has an index, and the entry of that.
@@ -40,18 +44,15 @@ impl<'a> Instances<'_, 'a> {
         }
     }
 
-    fn find_users(&self) -> Result<Users, alloc::collections::TryReserveError> {
-        let (mut ends, mut all) = (Vec::new(), Vec::new());
-        ends.try_reserve_exact(self.all.entries.len())?;
-        ends.resize(self.all.entries.len(), 0_u32);
+    fn find_users(&self) -> Result<Users, ReadError> {
+        let mut ends = repeated(0, self.all.entries.len())?;
         // how many each has, then where each begins, then where it ends
         self.each_use(|_, of| ends[of as usize] += 1);
         let mut count = 0;
         for end in &mut ends {
             count += core::mem::replace(end, count);
         }
-        all.try_reserve_exact(count as usize)?;
-        all.resize(count as usize, 0);
+        let mut all = repeated(0, count as usize)?;
         self.each_use(|user, of| {
             let end = &mut ends[of as usize];
             all[*end as usize] = user;

@@ -10,13 +10,13 @@ pub use visited::IndexUse;
 #[cfg(feature = "tree")]
 pub(super) use visited::Visitor;
 
+use super::Space;
 use super::fields::defined;
 #[cfg(feature = "tree")]
 use super::fields::group;
-use super::{CoreEntityType, Space};
 #[cfg(feature = "tree")]
 use super::{CoreTypeTree, GroupTree, ItemTree};
-use crate::view::{ItemView, ModuleDeclView};
+use crate::view::ItemView;
 
 /// A component or a type with index spaces of its own, as seen from an item (component model,
 /// explainer, "Index Spaces").
@@ -72,11 +72,13 @@ impl ItemTree {
 
 /// Returns the index space in which a declaration of a module type defines indices, and their
 /// number.
-pub(crate) fn defined_in_module(decl: &ModuleDeclView<'_>) -> Option<(Space, u32)> {
+#[cfg(feature = "scope")]
+pub(crate) fn defined_in_module(decl: &crate::view::ModuleDeclView<'_>) -> Option<(Space, u32)> {
     defined(decl)
 }
 
 /// Returns the index space of core items of a type.
-pub(crate) fn space_of(ty: &CoreEntityType) -> Option<Space> {
+#[cfg(feature = "scope")]
+pub(crate) fn space_of(ty: &super::CoreEntityType) -> Option<Space> {
     defined(ty).map(|(space, _)| space)
 }

@@ -3,6 +3,7 @@
 //! adds an item.
 
 mod cursors;
+mod definitions;
 mod reading;
 mod views;
 mod worlds;

@@ -98,19 +98,18 @@ fn imports(count: usize) -> Vec<u8> {
     [&Component::HEADER[..], &front, &imports].concat()
 }
 
-/// Returns the definitions of a component, of at most this many scopes, items, declarations and
-/// members of lists.
-fn defined(component: &[u8], count: usize) -> Definitions<'_> {
+/// Returns the definitions of a component, which take no more memory than the documentation states.
+fn defined(component: &[u8]) -> Definitions<'_> {
     let (read, requested) = requested(|| Definitions::new(component, usize::MAX));
-    // lists that double, each of a part of what the documentation states
-    assert!(requested <= 4 * (296 + 320) * count, "{requested}");
+    // of lists that double all requests are counted
+    assert!(requested <= 44 * component.len() + (1 << 20), "{requested}");
     read.expect("it is read")
 }
 
 #[test]
 fn each_of_many_indices_has_its_definition() {
     let component = imports(500_000);
-    let definitions = defined(&component, 500_000);
+    let definitions = defined(&component);
     let definitions = definitions.instances();
     let scope = definitions.component();
     let ((), requested) = requested(|| {
@@ -132,7 +131,7 @@ fn exports_of_exports_are_followed() {
         (0..1_000_000).flat_map(|of| [&[0, 0, 1][..], &number(of), &[0]].concat()).collect();
     let front = [&[0x0b][..], &number(4 + exports.len()), &number(1_000_000)].concat();
     let component = [&imports(1), &front[..], &exports].concat();
-    let definitions = defined(&component, 1_000_001);
+    let definitions = defined(&component);
     let definitions = definitions.instances();
     let scope = definitions.component();
     for index in 0..=1_000_000 {
@@ -155,13 +154,14 @@ fn many_sections_that_are_not_read() {
     let (definitions, requested) =
         requested(|| Definitions::past_faults(&component, 0, |_| faults += 1));
     let definitions = definitions.instances();
-    assert!(requested <= 4 * (296 + 320) * 3 * COUNT, "{requested}");
+    assert!(requested <= 40 * component.len() + (1 << 20), "{requested}");
     let scope = definitions.component();
     assert_eq!((faults, scope.count(Space::CoreFuncs)), (COUNT, Some(COUNT as u64)));
     let exports = (0..COUNT as u32).map(|index| scope.get(Space::Funcs, index).expect("an export"));
     for (index, export) in (0..).zip(exports) {
         assert_eq!(export.index(), Some(index));
-        assert!(matches!(export.target(), Err(ScopeFault::Unread { unread: 11, .. })));
+        // the first would be an export of itself
+        assert!(matches!(export.resolve(), Err(ScopeFault::OutOfRange { place: 15, .. })));
     }
 }
 
@@ -181,7 +181,7 @@ fn many_exports_of_one_instance_are_found() {
     let import = section(10, 1, b"\0\0\x05\0");
     let sections = [types, import, section(6, COUNT, &aliases)].concat();
     let component = [&Component::HEADER[..], &sections].concat();
-    let definitions = defined(&component, 2 * COUNT + 2);
+    let definitions = defined(&component);
     let definitions = definitions.instances();
     for (index, at) in (1..).zip((0..COUNT).rev()) {
         let found = definitions.component().resolve(Space::Types, index).expect("it is there");
@@ -198,7 +198,7 @@ fn outer_aliases_are_followed_in_deep_components() {
     let component = deep(DEPTH, &sections);
     let ty = [0x07, 0x02, 0x01, 0x79];
     let component = [&component[..8], &ty, &component[8..]].concat();
-    let definitions = defined(&component, DEPTH + 3);
+    let definitions = defined(&component);
     let definitions = definitions.instances();
     let mut scope = definitions.component();
     for _ in 0..DEPTH {

@@ -5,7 +5,7 @@ use crate::{component, nested, section};
 use wenc::scope::{Definition, Definitions, Instances, Meaning, Scope, ScopeFault};
 use wenc::tree::Space;
 use wenc::view::{InstanceView, ItemView, ModuleDeclView, TypeView};
-use wenc::{Cause, ComponentTypeRef, Part};
+use wenc::{Cause, ComponentSectionId, ComponentTypeRef, Part};
 
 fn read(component: Vec<u8>) -> Instances<'static, 'static> {
     let definitions = Definitions::new(component.leak(), 100).expect("it is read");
@@ -397,10 +397,10 @@ fn lifting_after(unread: &[u8], core: u8) -> Vec<u8> {
     component(&[many(7, &[b"\x40\0\x01\0"]), unread, lift, export].concat())
 }
 
-/// The space and the number of what can't be read, and whether that number is known.
-fn unread(scope: Scope<'_, '_>) -> Vec<(Space, u32, bool)> {
+/// The section and the number of what can't be read, and whether that number is known.
+fn unread(scope: Scope<'_, '_>) -> Vec<(Option<ComponentSectionId>, u32, bool)> {
     let unread = scope.definitions().filter_map(|of| match of.meaning() {
-        Meaning::Unread { space, count, is_known, .. } => Some((space, count, is_known)),
+        Meaning::Unread { section, count, is_known } => Some((section, count, is_known)),
         _ => None,
     });
     unread.collect()
@@ -418,18 +418,18 @@ fn indices_after_a_fault() {
         let fault = ScopeFault::Unread { place, space, unread: 18 };
         assert_eq!((export.target(), export.ty().err()), (Err(fault), Some(fault)));
         assert_eq!(fault.to_string(), "the func at 0x1f depends on what isn't read at 0x12");
-        assert_eq!(unread(scope), [(Space::CoreFuncs, 2, false), (space, 0, false)]);
+        assert_eq!(unread(scope), [(Some(ComponentSectionId::CanonicalFunction), 2, false)]);
         assert_eq!((export.index(), scope.count(space)), (None, None));
         assert_eq!((scope.count(Space::CoreFuncs), scope.count(Space::Types)), (None, Some(1)));
         assert_eq!(resolved(scope, Space::Types, 0), Ok(11));
     }
     // nor are they after aliases or imports that can't be read, if functions are core functions
-    for between in [b"\x06\x02\x01\xff", b"\x0a\x02\x01\xff"] {
+    for (between, unread) in [(b"\x06\x02\x01\xff", 18), (b"\x0a\x02\x01\xff", 22)] {
         let (definitions, faults) =
             past_faults(lifting_after(&[b"\x08\x02\x01\xff", &between[..]].concat(), 0));
         let export =
             definitions.component().export("f", Space::Funcs).unwrap().expect("it is read");
-        let fault = ScopeFault::Unread { place: 34, space, unread: 18 };
+        let fault = ScopeFault::Unread { place: 34, space, unread };
         assert_eq!((faults, export.target(), export.index()), (2, Err(fault), None));
     }
     // neither is an export of an instance whose component has exports that can't be read, at 21
@@ -453,7 +453,7 @@ fn indices_after_core_functions() {
     let export = scope.export("f", Space::Funcs).unwrap().expect("it is read");
     assert_eq!(export.resolve().map(|of| (of.place(), of.index())), Ok((23, Some(0))));
     assert_eq!((export.index(), scope.count(Space::Funcs)), (Some(1), Some(2)));
-    assert_eq!(unread(scope), [(Space::CoreFuncs, 2, true), (Space::Funcs, 0, true)]);
+    assert_eq!(unread(scope), [(Some(ComponentSectionId::CanonicalFunction), 2, true)]);
     let space = Space::CoreFuncs;
     for index in [0, 1] {
         let fault = ScopeFault::Unread { place: 0, space, unread: 18 };
@@ -498,7 +498,7 @@ fn cycles() {
         .export("a", Space::Instances)
         .unwrap()
         .expect("an argument");
-    is_cycle(argument, 21, Space::Instances, 0);
+    is_cycle(argument, 24, Space::Instances, 0);
 }
 
 /// Components in one another, and types, up to a limit.
@@ -554,6 +554,13 @@ fn resources_of_instances() {
     let origin = [1, 2].map(|index| ty(index).origin().unwrap().and_then(Definition::name));
     assert_eq!(origin, [Some("a"), Some("b")]);
     assert_eq!(ty(2).instance().and_then(Definition::index), Some(1));
+    let import = all.component().get(Space::Instances, 1).unwrap();
+    let exports = import.exports().unwrap().unwrap();
+    assert_eq!(
+        (exports.instance(), exports.export("r", Space::Types)),
+        (Some(import), Ok(Some(ty(2))))
+    );
+    assert_eq!(all.component().instance(), None);
     // a component that defines one and exports it, instantiated twice
     let inner = [many(7, &[b"\x3f\x7f\0"]), section(11, b"\x01\0\x01r\x03\0\0")];
     let instances = many(5, &[b"\0\0\0", b"\0\0\0"]);

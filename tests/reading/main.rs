@@ -3,11 +3,13 @@
 mod commands;
 mod core_sections;
 mod cursor;
+mod damaged;
 mod debug_names;
 mod definitions;
 mod faults;
 mod groups;
 mod indices;
+mod instances;
 mod listing;
 mod nested;
 mod nodes;

@@ -2,6 +2,7 @@
 
 use crate::Seen;
 use wenc::tree::{ItemTree, Scope, Space};
+use wenc::view::ItemView;
 use wenc::{Cause, Error, Part, ReadError};
 
 fn component(sections: &[&[u8]]) -> Vec<u8> {
@@ -39,7 +40,8 @@ const PADDED: &[u8] = b"\x06\x81\x00\x00";
 
 /// The visited indices, with those of the enclosing component increased by this.
 fn raise(item: &mut ItemTree, by: u32) -> Vec<Seen> {
-    let mut seen = Vec::new();
+    let mut seen = borrowed(item).expect("it is read");
+    let seen_first = std::mem::take(&mut seen);
     let visited = item.outer_indices_mut(1, |used| {
         seen.push((used.space, used.scope, *used.index));
         if used.scope == Scope::Component(0) {
@@ -47,7 +49,17 @@ fn raise(item: &mut ItemTree, by: u32) -> Vec<Seen> {
         }
     });
     assert_eq!(visited, Ok(()));
+    assert_eq!(seen, seen_first);
     seen
+}
+
+/// The indices that are visited in the borrowed item.
+fn borrowed(item: &ItemTree) -> Result<Vec<Seen>, ReadError> {
+    let ItemTree::Component(bytes) = item else { return Ok(Vec::new()) };
+    let mut seen = Vec::new();
+    ItemView::Component(bytes)
+        .outer_indices(1, |used| seen.push((used.space, used.scope, used.index)))?;
+    Ok(seen)
 }
 
 #[test]

@@ -9,9 +9,10 @@
 
 mod debug_names;
 mod definitions;
-mod encoded;
 mod docs;
+mod encoded;
 mod examples;
+mod faults_of_scopes;
 mod features;
 mod indices;
 mod interfaces;
