@@ -89,7 +89,7 @@
 //!   [`CoreSections`], [`DebugNames`], [`ProducersReader`], [`view`], and the types of [`tree`] that
 //!   borrowed and owned items share: `Node`, `Space`, `Scope`, `IndexCounts` and core types.
 //! - `scope` adds what indices mean, to `walk`: [`scope`].
-//! - `wit` adds worlds as WIT to `scope`: `wit`.
+//! - `wit` adds worlds as WIT, to `scope`: `wit`.
 //! - `tree` adds items that own what they contain, to `walk`: [`list`], [`ItemSection`], the other
 //!   types of [`tree`], and the calls that take or return them.
 // Without the features there is nothing to link to but their description.

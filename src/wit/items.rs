@@ -139,9 +139,8 @@ impl<'s, 'a> Writer<'s, 'a, '_> {
         exports(scope).try_for_each(|named| items.push("export ", NONE, named))?;
         items.link()?;
         for of in scope.definitions() {
-            let meaning = of.meaning();
-            if matches!(meaning, Meaning::Unread { section: Some(ComponentSectionId::Import), .. })
-            {
+            let Meaning::Unread { section, .. } = of.meaning() else { continue };
+            if section == Some(ComponentSectionId::Import) {
                 self.part(note(of.place(), Why::Unread))?;
             }
         }
