@@ -276,9 +276,12 @@ impl<'d, 'f, 't> Data<'d, 'f, 't> {
 
     /// Cuts bytes without items to their ends.
     fn cut(&mut self, bytes: Range<usize>) -> fmt::Result {
-        if bytes.len() > WHOLE {
+        // sections of wrong sizes may overlap
+        let last = self.cut.last().map_or(0, |cut| cut.end);
+        let cut = last.max(bytes.start + END)..bytes.end.saturating_sub(END);
+        if bytes.len() > WHOLE && !cut.is_empty() {
             self.cut.try_reserve(1).map_err(|_| fmt::Error)?;
-            self.cut.push(bytes.start + END..bytes.end - END);
+            self.cut.push(cut);
         }
         Ok(())
     }
@@ -335,6 +338,42 @@ impl<'d, 'f, 't> Data<'d, 'f, 't> {
         write!(self.rows, ",{same},{last},{ty},{origin}")
     }
 
+    fn section(&mut self, part: &Part) -> fmt::Result {
+        let Part::Section { range, id, word, content, count, core } = part else { return Ok(()) };
+        self.row(range, Kind::Section)?;
+        let word = match word {
+            Some(word) => self.word(word)?,
+            None => self.word(&format_args!("section {id}"))?,
+        };
+        let count = count.map_or(-1, i64::from);
+        let is_core = u8::from(core.is_some());
+        write!(self.rows, ",{word},{id},{count},{is_core}")?;
+        self.text(core.as_ref().and_then(|core| core.name))?;
+        self.field(content - range.start)?;
+        if let Some(open) = self.open.last_mut() {
+            open.id = Some(*id).filter(|_| core.is_none());
+        }
+        if let Some(core) = core {
+            self.cut(range.end - core.bytes.len()..range.end)?;
+        }
+        Ok(())
+    }
+
+    fn entry(&mut self, entry: &Entry) -> fmt::Result {
+        self.row(&(self.last..self.last), Kind::Entry)?;
+        match entry {
+            Entry::Name(of, name) => {
+                let of = of.map(|(space, index)| format!("{space} {index}"));
+                self.text(Some(of.as_deref().unwrap_or("component")))?;
+                self.text(Some(name))
+            }
+            Entry::Tool(tool) => {
+                self.text(Some(tool.field))?;
+                self.field(Text(format_args!("{} {}", tool.name, tool.version)))
+            }
+        }
+    }
+
     fn part(&mut self, part: &Part) -> fmt::Result {
         match part {
             Part::File(range, Content::Component(name)) => {
@@ -343,24 +382,7 @@ impl<'d, 'f, 't> Data<'d, 'f, 't> {
                 self.text(*name)?;
             }
             Part::File(range, _) => self.row(range, Kind::Module)?,
-            Part::Section { range, id, word, content, count, core } => {
-                self.row(range, Kind::Section)?;
-                let word = match word {
-                    Some(word) => self.word(word)?,
-                    None => self.word(&format_args!("section {id}"))?,
-                };
-                let count = count.map_or(-1, i64::from);
-                let is_core = u8::from(core.is_some());
-                write!(self.rows, ",{word},{id},{count},{is_core}")?;
-                self.text(core.as_ref().and_then(|core| core.name))?;
-                self.field(content - range.start)?;
-                if let Some(open) = self.open.last_mut() {
-                    open.id = Some(*id).filter(|_| core.is_none());
-                }
-                if let Some(core) = core {
-                    self.cut(range.end - core.bytes.len()..range.end)?;
-                }
-            }
+            Part::Section { .. } => self.section(part)?,
             Part::Item { range, content: Content::Custom(name, size, contents), .. } => {
                 self.row(range, Kind::Custom)?;
                 self.text(Some(name))?;
@@ -381,17 +403,7 @@ impl<'d, 'f, 't> Data<'d, 'f, 't> {
                     _ => self.text(name)?,
                 }
             }
-            Part::Entry(Entry::Name(of, name)) => {
-                self.row(&(self.last..self.last), Kind::Entry)?;
-                let of = of.map(|(space, index)| format!("{space} {index}"));
-                self.text(Some(of.as_deref().unwrap_or("component")))?;
-                self.text(Some(name))?;
-            }
-            Part::Entry(Entry::Tool(tool)) => {
-                self.row(&(self.last..self.last), Kind::Entry)?;
-                self.text(Some(tool.field))?;
-                self.field(Text(format_args!("{} {}", tool.name, tool.version)))?;
-            }
+            Part::Entry(entry) => self.entry(entry)?,
         }
         self.rows.write_str("]")
     }
@@ -420,7 +432,13 @@ impl<'d, 'f, 't> Data<'d, 'f, 't> {
             write!(out, "{}[{},{place}]", mem::replace(&mut lead, ","), Text(line))
         })?;
         out.write_all(if lead == "," { b"" } else { lead.as_bytes() })?;
-        // the bytes before each that are cut, and a hash of these
+        self.print_bytes(out)?;
+        out.write_all(b"]}")
+    }
+
+    /// Writes the bytes before each that are cut, and a hash of these.
+    fn print_bytes(&self, out: &mut dyn Write) -> io::Result<()> {
+        let size = self.bytes.len();
         let (mut from, mut lead, mut left) = (0, "],\n\"bytes\":[", SHOWN);
         let last = size..size;
         for mut cut in self.cut.iter().chain([&last]).cloned() {
@@ -439,7 +457,7 @@ impl<'d, 'f, 't> Data<'d, 'f, 't> {
                 break;
             }
         }
-        out.write_all(b"]}")
+        Ok(())
     }
 }
 
