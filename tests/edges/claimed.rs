@@ -28,7 +28,8 @@ impl<I: Iterator> ExactSizeIterator for Claiming<I> {}
 
 /// No length, one that is too small, the right one, one that is too large, and some for which no
 /// memory suffices.
-const CLAIMED: [usize; 7] = [0, 1, 3, 100, 1 << 40, isize::MAX as usize, usize::MAX];
+const CLAIMED: [usize; 7] =
+    [0, 1, 3, 100, isize::MAX as usize >> 23, isize::MAX as usize, usize::MAX];
 
 /// With each parent and each reported length.
 fn is_encoded(write: impl Fn(CoreTypeEncoder<'_>, usize), wanted: &[u8]) {
