@@ -17,6 +17,10 @@ mod refusals;
 #[path = "../common/sections.rs"]
 mod sections;
 
+#[cfg(feature = "tree")]
+use crate::proved::wenc_list::{ListFault, ListRefusal, list_or_refusal};
+#[cfg(feature = "tree")]
+use crate::shim::alloc::Global;
 use std::vec::Vec;
 
 /// A component with these sections.
@@ -24,12 +28,26 @@ fn component(sections: &[u8]) -> Vec<u8> {
     [b"\0asm\x0d\0\x01\0", sections].concat()
 }
 
+/// The fault that the proved lister returns where the facade returns this one.
+#[cfg(feature = "tree")]
+fn proved_fault(fault: crate::ListFault) -> ListFault {
+    match fault {
+        crate::ListFault::NoMemory => ListFault::Memory,
+        crate::ListFault::NotAComponent { place, .. } => ListFault::NotAComponent { place },
+        crate::ListFault::BadSection { place, .. } => ListFault::BadSection { place },
+        crate::ListFault::BadItem { place, .. } => ListFault::BadItem { place },
+        crate::ListFault::TooDeep { place, .. } => ListFault::TooDeep { place },
+    }
+}
+
 /// Reads the component as a listing, as owned items and as borrowed ones: they are the same, or all
-/// end with the same fault, which is returned once.
+/// end with the same fault, which is returned once. It is the proved one.
 #[cfg(feature = "tree")]
 #[track_caller]
 fn read(bytes: &[u8]) -> Result<crate::Listing, crate::ListFault> {
     let listing = crate::list(bytes);
+    let fault = list_or_refusal(Global, bytes).err().map(ListRefusal::fault);
+    assert_eq!(listing.as_ref().err().copied().map(proved_fault), fault, "{bytes:x?}");
     let Ok(sections) = crate::Sections::new(bytes) else { return listing };
     let (mut views, mut trees) = (sections.items(), sections.trees());
     let mut items = Vec::new();
