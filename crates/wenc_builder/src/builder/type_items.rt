@@ -153,7 +153,8 @@ impl<A: Allocator> ComponentBuilder<A> {
         ensures { Enters self.old self.new result
             (type_entry (option_copied debug_name.entry) (ResourceType rep dtor)) }
     {
-        let resource = Prefix(0x3f, &(rep, dtor));
+        let parts = (rep, dtor);
+        let resource = Prefix(0x3f, &parts);
         self.add(Kind::Type, Space::Types, debug_name, &resource)
     }
 }
