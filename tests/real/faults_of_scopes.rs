@@ -176,6 +176,7 @@ fn chains_end_where_they_are_followed_to() {
 /// The users of each definition are those that have an index of it, and the definition at a byte
 /// offset is the shortest one that has it.
 #[test]
+#[allow(clippy::mutable_key_type, reason = "definitions are compared by their numbers alone")]
 fn users_and_places() {
     let (mut users, mut offsets) = (0, 0);
     for (name, bytes) in components() {

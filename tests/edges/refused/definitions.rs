@@ -19,7 +19,7 @@ fn component() -> Vec<u8> {
     let ty = outer.type_instance(None, &ty);
     let inner = outer.component(None, inner);
     for number in 0..12 {
-        let import = outer.import(&format!("a{number}"), ComponentTypeRef::Instance(ty));
+        let import = outer.import(format!("a{number}"), ComponentTypeRef::Instance(ty));
         let arguments = [("i", ComponentExportKind::Instance, import)];
         let instance = outer.instantiate(None, inner, arguments);
         let again = outer.alias_export(instance, "e", ComponentExportKind::Instance);
