@@ -21,7 +21,8 @@
 //! }
 //!
 //! // The module exports "run", a function that takes a number.
-//! let module = b"\0asm\x01\0\0\0\x01\x05\x01\x60\x01\x7f\0\x03\x02\x01\0\x07\x07\x01\x03run\0\0\x0a\x04\x01\x02\0\x0b";
+//! let module = b"\0asm\x01\0\0\0\x01\x05\x01\x60\x01\x7f\0\x03\x02\x01\0\
+//!     \x07\x07\x01\x03run\0\0\x0a\x04\x01\x02\0\x0b";
 //! assert_eq!(
 //!     wrapped(module)[8 + 2 + module.len()..],
 //!     *b"\x02\x04\x01\0\0\0\x06\x09\x01\0\0\x01\0\x03run\
@@ -86,8 +87,8 @@
 //! take longer to compile:
 //!
 //! - `walk` adds the reading of components, whose items borrow from its bytes: [`Sections`],
-//!   [`CoreSections`], [`DebugNames`], [`ProducersReader`], [`view`], and the types of [`tree`] that
-//!   borrowed and owned items share: `Node`, `Space`, `Scope`, `IndexCounts` and core types.
+//!   [`CoreSections`], [`DebugNames`], [`ProducersReader`], [`view`], and the types of [`tree`]
+//!   that borrowed and owned items share: `Node`, `Space`, `Scope`, `IndexCounts` and core types.
 //! - `scope` adds what indices mean, to `walk`: [`scope`].
 //! - `wit` adds worlds as WIT, to `scope`: `wit`.
 //! - `tree` adds items that own what they contain, to `walk`: [`list`], [`ItemSection`], the other

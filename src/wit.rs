@@ -4,8 +4,8 @@
 //!
 //! A component contains neither the name of its world nor that of the world's package: here they
 //! are `root` and `root:component`, or another one if the component has interfaces of that package.
-//! Of an imported interface it contains what is used. A component that is a package of WIT, as `wkg`
-//! and `wasm-tools component wit` write and read it, is written as that package.
+//! Of an imported interface it contains what is used. A component that is a package of WIT, as
+//! `wkg` and `wasm-tools component wit` write and read it, is written as that package.
 //!
 //! ```
 //! use wenc::scope::Definitions;

@@ -220,19 +220,21 @@ fn what_is_not_known() {
     REFUSED.iter().for_each(|(line, why, source)| refuses(source, *line, why));
 }
 
+/// What is before and after a sign in a clause and in ghost items.
+const GHOSTS: [(&str, &str); 6] = [
+    ("fn f()\n    ensures { a ", " }\n{}\n"),
+    ("fn f()\n    requires* b { { a ", " } }\n{}\n"),
+    ("trait T {\n    ghost a: { ", " } = { b };\n}\n"),
+    ("impl T for S {\n    ghost a = { b (", ") };\n}\n"),
+    ("struct S {\n    ghost a: { b ", " },\n}\n"),
+    ("struct S;\nghost use a.{b, ", " c};\n"),
+];
+
 /// Whatever might end a clause or a ghost item elsewhere for the prover than for the eraser, in
 /// each of them.
 #[test]
 fn signs_that_might_hide_a_brace() {
-    let ghosts = [
-        ("fn f()\n    ensures { a ", " }\n{}\n"),
-        ("fn f()\n    requires* b { { a ", " } }\n{}\n"),
-        ("trait T {\n    ghost a: { ", " } = { b };\n}\n"),
-        ("impl T for S {\n    ghost a = { b (", ") };\n}\n"),
-        ("struct S {\n    ghost a: { b ", " },\n}\n"),
-        ("struct S;\nghost use a.{b, ", " c};\n"),
-    ];
-    for (begin, end) in ghosts {
+    for (begin, end) in GHOSTS {
         let refuses = |sign: &str, why| refuses(&format!("{begin}{sign}{end}"), 2, why);
         refuses("{- } -}", "a block comment in a clause");
         refuses("{- ; fn g() {} // -}", "a block comment in a clause");

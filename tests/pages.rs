@@ -202,7 +202,8 @@ fn what_is_not_there_is_found() {
     tree.add("docs/F.md", "# F\n\n## One, `two`: three-four\n\n```\n# no heading\n```\n");
     let dead = |text: &str| tree.dead("docs/G.md", text);
     let there = "[a](F.md#one-two-three-four) [b](../check) [c](F.md) [web](https://a/b)\n\
-        `a/src/d.rt` `../check` `tests/` `F.md` `crates/*/src/{d,b/*}.rt` `crates/CRATE/src/NAME.rt`\n\
+        `a/src/d.rt` `../check` `tests/` `F.md` `crates/*/src/{d,b/*}.rt`\n\
+        `crates/CRATE/src/NAME.rt`\n\
         `b/c.rt` `d.rt` `tests/e.rs 3` `target/c` `/dev/null` `a = \"../x\"` `.rs` c/d.rs\n\
         ```\n`e/f.rs` [g](h.md)\n```\n";
     assert_eq!(dead(there), [""; 0]);

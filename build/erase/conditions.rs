@@ -150,8 +150,8 @@ impl Eraser<'_> {
         format!("{}{}", self.at(j), if is_last { " " } else { "" })
     }
 
-    /// Leaves one of several names out of a list, with the comma after it or, if it is the last one,
-    /// before it.
+    /// Leaves one of several names out of a list, with the comma after it or, if it is the last
+    /// one, before it.
     fn leave_out_of_list(&mut self, j: usize) {
         let begin = if self.at(j + 1) == "," { j } else { j - 1 };
         self.leave_out(begin..begin + 2);

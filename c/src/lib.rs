@@ -221,8 +221,8 @@ macro_rules! calls {
     };
 }
 
-/// Defines one function: its name, whether it has an index, the session and the body; the parameters
-/// of C so far; the statements that read them; and the remaining arguments.
+/// Defines one function: its name, whether it has an index, the session and the body; the
+/// parameters of C so far; the statements that read them; and the remaining arguments.
 macro_rules! call {
     ([$f:ident [$($index:ident)?] $s:ident $body:expr] [$($c:tt)*] [$($read:tt)*] $(,)?) => {
         #[unsafe(no_mangle)]

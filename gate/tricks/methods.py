@@ -14,9 +14,9 @@ import sys
 from pathlib import Path
 
 TYPES = """bool char u8 u16 u32 u64 u128 usize i8 i16 i32 i64 i128 isize () (u8,u8) (u8,u8,u8) str
-    &'static_str [u8] &'static_[u8] [u8;2] ::std::vec::Vec<u8> ::std::vec::Vec<::std::string::String>
-    ::std::string::String ::std::option::Option<u8> ::std::result::Result<u8,u8>
-    ::std::option::Option<::std::option::Option<u8>>
+    &'static_str [u8] &'static_[u8] [u8;2] ::std::vec::Vec<u8>
+    ::std::vec::Vec<::std::string::String> ::std::string::String ::std::option::Option<u8>
+    ::std::result::Result<u8,u8> ::std::option::Option<::std::option::Option<u8>>
     ::std::option::Option<&'static_u8> ::std::boxed::Box<u8> &'static_u8 &'static_mut_u8
     ::std::vec::IntoIter<u8> ::std::slice::Iter<'static,u8> ::std::str::Chars<'static>
     ::std::cmp::Ordering ::std::marker::PhantomData<u8> Own"""

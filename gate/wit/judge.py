@@ -7,7 +7,8 @@ LINKER is the `wasm-component-ld` of a Rust toolchain, which contains them. Of e
 the folder CORPUS, of each wrapped once, twice and three times in one that imports and exports the
 same, and of each in FOLDER:
 
-- what is printed is read by the parser, and the component type that it makes of it by the validator;
+- what is printed is read by the parser, and the component type that it makes of it by the
+  validator;
 - if all of the world is printed (status 0), a component is made of the world and of a core module
   (`compiled.py`), whose world has to be the same but for what the linker leaves out: what no
   function of an import needs;

@@ -185,7 +185,7 @@ impl Random {
     pub fn component(&mut self) -> Vec<u8> {
         let mut builder = ComponentBuilder::default();
         let (mut outer, mut instances, mut functions) = (Vec::new(), Vec::new(), Vec::new());
-        let (mut imports, mut exports) = (Vec::new(), Vec::new());
+        let mut imports = Vec::new();
         for _ in 0..2 + self.below(4) {
             let interface = self.interface(&outer);
             let ty = builder.type_instance(None, &interface.made);
@@ -216,18 +216,29 @@ impl Random {
                 builder.export(*name, Kind::Func, function, None);
             }
         }
+        let types = outer.iter().map(|ty| (Kind::Type, ty.index));
+        let items: Vec<_> = types.chain(functions.iter().map(|f| (Kind::Func, *f))).collect();
+        self.export_instances(&mut builder, &instances, &items);
+        builder.finish()
+    }
+
+    /// Exports instances, also some that have these items.
+    fn export_instances(
+        &mut self,
+        builder: &mut ComponentBuilder,
+        instances: &[u32],
+        items: &[(Kind, u32)],
+    ) {
+        let mut exports = Vec::new();
         for _ in 0..self.below(4) {
-            let types = outer.iter().map(|ty| (Kind::Type, ty.index));
-            let all: Vec<_> = types.chain(functions.iter().map(|f| (Kind::Func, *f))).collect();
             let instance = if self.is(2) {
-                self.pick(&instances).unwrap_or_default()
+                self.pick(instances).unwrap_or_default()
             } else {
-                let list = (0..self.below(4)).filter_map(|_| self.pick(&all)).zip(NAMES);
+                let list = (0..self.below(4)).filter_map(|_| self.pick(items)).zip(NAMES);
                 let list: Vec<_> = list.map(|((kind, index), name)| (name, kind, index)).collect();
                 builder.instantiate_exports(None, list)
             };
             builder.export(self.path(&mut exports), Kind::Instance, instance, None);
         }
-        builder.finish()
     }
 }

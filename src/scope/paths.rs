@@ -252,11 +252,7 @@ impl Instances<'_, '_> {
                 let last = self.all.last_of(at.number)?;
                 let head = self.head(last);
                 let path = self.path_of(at.path, head);
-                let mut rest = last;
-                while rest.path != NONE {
-                    todo.push(Todo::Member(rest.number), place)?;
-                    rest = self.path(rest.path).instance;
-                }
+                self.push_members(last, todo, place)?;
                 if let Some(argument) = self.argument(path, head) {
                     at = argument;
                     continue;
@@ -282,6 +278,21 @@ impl Instances<'_, '_> {
             }
         }
         Err(ScopeFault::TooDeep { place })
+    }
+
+    /// Adds the entries of instances by which this one is found, the outermost last.
+    #[inline]
+    fn push_members(
+        &self,
+        mut rest: At,
+        todo: &mut Waiting,
+        place: usize,
+    ) -> Result<(), ScopeFault> {
+        while rest.path != NONE {
+            todo.push(Todo::Member(rest.number), place)?;
+            rest = self.path(rest.path).instance;
+        }
+        Ok(())
     }
 
     /// Returns an entry of an instance, and whether it is the last one that it is the same as; what

@@ -17,8 +17,8 @@ pub mod string;
 pub mod vec;
 
 /// The names that are in scope by default in the proved sources, in place of Rust's: no other name
-/// is in scope there that a source doesn't declare or import. So a trait that only Rust's types have
-/// ([`NoTrait`]) has no method there.
+/// is in scope there that a source doesn't declare or import. So a trait that only Rust's types
+/// have ([`NoTrait`]) has no method there.
 #[allow(unused_imports, reason = "some are for parts that have a condition")]
 pub mod prelude {
     #[cfg(not(any(script, test)))]

@@ -44,7 +44,9 @@ impl Item<'_> {
     /// let component = b"\0asm\x0d\0\x01\0\x07\x05\x01\x40\0\x01\0\x0a\x07\x01\0\x01f\x01\x80\0";
     /// let item = Sections::new(component)?.items().nth(1).expect("an item")?;
     /// let mut found = Vec::new();
-    /// assert!(item.each_encoded(component, |range, node| found.push((range, format!("{node:?}")))));
+    /// assert!(item.each_encoded(component, |range, node| {
+    ///     found.push((range, format!("{node:?}")));
+    /// }));
     /// let places: Vec<_> = found.iter().map(|(range, _)| range.clone()).collect();
     /// assert_eq!(places, [18..19, 19..21, 21..22, 22..24]);
     /// assert!(found[1].1.contains("Text(\"f\")") && found[3].1.contains("index: 0"));

@@ -281,8 +281,8 @@ impl<'s, 'a> Writer<'s, 'a, '_> {
         }
     }
 
-    /// Returns whether a type is a resource of the interface that is being written, and gives it its
-    /// name.
+    /// Returns whether a type is a resource of the interface that is being written, and gives it
+    /// its name.
     pub fn own_resource(&mut self, name: &'a str, of: Definition<'s, 'a>) -> Result<bool, Stop> {
         let Found::Last(last) = self.find(of, true)? else { return Ok(false) };
         if !is_resource(last) {

@@ -130,49 +130,71 @@ pub fn compare(
         has_conditions,
         ..Source::default()
     };
-    let (mut rest, mut begin) = (new, 0);
+    let mut rest = new;
     if !rest.is_empty() {
         // It stands in the line of what documents the first item.
         let line = has_lines.then_some(rest[0].line);
         take("prelude", line, "use crate::shim::prelude::*;", &mut rest)?;
         counts.insert("prelude", 1);
     }
-    while let Some(first) = old.tokens.get(source.at) {
-        let line = has_lines.then_some(first.line);
-        if let Some(end) = source.end_of_macro().filter(|_| source.at >= source.end_of_macro) {
-            (begin, source.end_of_macro) = (source.at, end);
-        }
-        if source.at < source.end_of_macro {
-            let Step { way, old, new } = source.step();
-            if way != "kept" || first.is_documented && source.at > begin {
-                return Err(format!("{}: a macro is passed something else", first.line));
-            }
-            take(way, line, &new, &mut rest).map_err(|why| format!("{}: {why}", first.line))?;
-            source.at += old;
-            continue;
-        }
-        if source.has_conditions {
-            if let Some((way, condition)) = source.condition() {
-                take(way, line, &condition, &mut rest)
-                    .map_err(|why| format!("{}: {why}", first.line))?;
-                *counts.entry(way).or_default() += 1;
-            }
-        }
-        let is_inlined = rest.len() > 2 && rest[0].text == "#" && rest[2].text == "inline";
-        if is_inlined && ["fn", "pub"].contains(&&*first.text) {
-            let (way, attribute) = source.inlined();
-            take(way, line, attribute, &mut rest)?;
-            *counts.entry(way).or_default() += 1;
-        }
-        let Step { way, old, new } = source.step();
-        take(way, line, &new, &mut rest).map_err(|why| format!("{}: {why}", first.line))?;
-        *counts.entry(way).or_default() += 1;
-        source.at += old;
-    }
+    compare_tokens(&mut source, &mut rest, has_lines, counts)?;
     match rest.first() {
         Some(more) => Err(format!("{}: {:?} came in", more.line, more.text)),
         None => Ok(()),
     }
+}
+
+/// Takes what the tokens of a source become.
+fn compare_tokens(
+    source: &mut Source,
+    rest: &mut &[Token],
+    has_lines: bool,
+    counts: &mut BTreeMap<&'static str, usize>,
+) -> Result<(), String> {
+    let mut begin = 0;
+    while let Some(first) = source.tokens.get(source.at) {
+        let line = has_lines.then_some(first.line);
+        if let Some(end) = source.end_of_macro().filter(|_| source.at >= source.end_of_macro) {
+            (begin, source.end_of_macro) = (source.at, end);
+        }
+        let is_in_macro = source.at < source.end_of_macro;
+        if !is_in_macro {
+            attributes(source, line, rest, counts)
+                .map_err(|why| format!("{}: {why}", first.line))?;
+        }
+        let Step { way, old, new } = source.step();
+        if is_in_macro && (way != "kept" || first.is_documented && source.at > begin) {
+            return Err(format!("{}: a macro is passed something else", first.line));
+        }
+        take(way, line, &new, rest).map_err(|why| format!("{}: {why}", first.line))?;
+        if !is_in_macro {
+            *counts.entry(way).or_default() += 1;
+        }
+        source.at += old;
+    }
+    Ok(())
+}
+
+/// Takes the attributes that come in before a token: a condition, and that it is inlined.
+fn attributes(
+    source: &mut Source,
+    line: Option<usize>,
+    rest: &mut &[Token],
+    counts: &mut BTreeMap<&'static str, usize>,
+) -> Result<(), String> {
+    if source.has_conditions {
+        if let Some((way, condition)) = source.condition() {
+            take(way, line, &condition, rest)?;
+            *counts.entry(way).or_default() += 1;
+        }
+    }
+    let is_inlined = rest.len() > 2 && rest[0].text == "#" && rest[2].text == "inline";
+    if is_inlined && ["fn", "pub"].contains(&&*source.tokens[source.at].text) {
+        let (way, attribute) = source.inlined();
+        take(way, line, attribute, rest)?;
+        *counts.entry(way).or_default() += 1;
+    }
+    Ok(())
 }
 
 /// Takes these tokens from the rest of the Rust. The first is in this line, if one is given.

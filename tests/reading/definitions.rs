@@ -161,28 +161,35 @@ fn outer_core_types() {
     assert_eq!(resolved(module, Space::CoreTypes, 0), Ok(11));
 }
 
+/// The type of a core module, and what it exports: the kind, the name, the space and the offset.
+const MODULE: &[u8] = b"\x50\x07\x01\x60\0\0\x03\x01f\0\0\x03\x01t\x01\x70\0\0\x03\x01m\x02\0\0\
+    \x03\x01g\x03\x7f\0\x03\x01x\x04\0\0\x03\x01h\0\0";
+const OF_MODULE: [(u8, u8, Space, usize); 5] = [
+    (0, b'f', Space::CoreFuncs, 17),
+    (1, b't', Space::CoreTables, 22),
+    (2, b'm', Space::CoreMemories, 29),
+    (3, b'g', Space::CoreGlobals, 35),
+    (4, b'x', Space::CoreTags, 41),
+];
+
+/// Aliases of what an instance of it exports.
+fn aliases_of_module(instance: u8) -> Vec<u8> {
+    let aliases = OF_MODULE.map(|(kind, name, ..)| vec![0, kind, 1, instance, 1, name]);
+    many(6, &aliases.each_ref().map(Vec::as_slice))
+}
+
 /// What an imported core module exports, by its type, also through a list of exports.
 #[test]
 fn exports_of_core_instances() {
-    let module = b"\x50\x07\x01\x60\0\0\x03\x01f\0\0\x03\x01t\x01\x70\0\0\x03\x01m\x02\0\0\
-        \x03\x01g\x03\x7f\0\x03\x01x\x04\0\0\x03\x01h\0\0";
-    let kinds: [(u8, u8, Space, usize); 5] = [
-        (0, b'f', Space::CoreFuncs, 17),
-        (1, b't', Space::CoreTables, 22),
-        (2, b'm', Space::CoreMemories, 29),
-        (3, b'g', Space::CoreGlobals, 35),
-        (4, b'x', Space::CoreTags, 41),
-    ];
-    let aliases = |instance| kinds.map(|(kind, name, ..)| vec![0, kind, 1, instance, 1, name]);
-    let items = |instance| many(6, &aliases(instance).each_ref().map(Vec::as_slice));
-    let exports = kinds.map(|(kind, name, ..)| vec![1, name, kind, 0]);
+    let exports = OF_MODULE.map(|(kind, name, ..)| vec![1, name, kind, 0]);
     let list = [&[1, 5][..], &exports.concat()].concat();
     let import = section(10, b"\x01\0\x01m\0\x11\0");
-    let front = [many(3, &[module]), import, many(2, &[b"\0\0\0"]), items(0)].concat();
-    let all = component(&[&front[..], &many(2, &[&list]), &items(1)].concat());
+    let instance = many(2, &[b"\0\0\0"]);
+    let front = [many(3, &[MODULE]), import, instance, aliases_of_module(0)].concat();
+    let all = component(&[&front[..], &many(2, &[&list]), &aliases_of_module(1)].concat());
     let (all, inside) = (read(all), read(component(&nested(&front))));
     let inside = inner(inside.component(), Space::Components, 0);
-    for (_, name, space, place) in kinds {
+    for (_, name, space, place) in OF_MODULE {
         for index in [0, 1] {
             assert_eq!(resolved(all.component(), space, index), Ok(place), "{space:?} {index}");
         }
@@ -193,10 +200,14 @@ fn exports_of_core_instances() {
         assert_eq!((export.space(), export.index()), (Some(space), None));
         assert_eq!(export.resolve().map(Definition::place), Ok(place));
     }
-    // the bytes of a module aren't read: an alias of what it exports is no other
+    exports_of_a_module_with_bytes();
+}
+
+/// The bytes of a module aren't read: an alias of what it exports is no other.
+fn exports_of_a_module_with_bytes() {
     let module = section(1, b"\0asm\x01\0\0\0");
     let core = many(2, &[b"\0\0\0", b"\0\0\x01\x01a\x12\0"]);
-    let all = read(component(&[module, core, items(0)].concat()));
+    let all = read(component(&[module, core, aliases_of_module(0)].concat()));
     let alias = all.component().get(Space::CoreTables, 0).unwrap();
     assert_eq!((alias.target(), alias.resolve()), (Ok(None), Ok(alias)));
     let argument = inner(all.component(), Space::CoreInstances, 1);
@@ -280,8 +291,8 @@ fn types_of_definitions() {
     assert_eq!(resource.resolve(), Ok(resource));
 }
 
-/// An export with an ascribed type is a definition of its own: it has that type, and so has an export
-/// of it.
+/// An export with an ascribed type is a definition of its own: it has that type, and so has an
+/// export of it.
 #[test]
 fn ascribed_types() {
     // functions 0 and 1 are imports of types 0 and 1, 2 and 3 exports of 0 and 2, 4 one of 1
@@ -361,7 +372,8 @@ fn past_faults(component: Vec<u8>) -> (Instances<'static, 'static>, usize) {
 fn past_a_fault() {
     let ty = many(7, &[b"\x79"]);
     for (sections, types, faults) in [
-        // what isn't a section, or has no count, may define any number; nor is known what is after it
+        // what isn't a section, or has no count, may define any number; nor is known what is after
+        // it
         ([&ty[..], &section(10, b"\x80"), &ty].concat(), None, 1),
         ([&ty[..], b"\x0b\x7f\x01", &ty].concat(), None, 1),
         ([&ty[..], &nested(b"\x07\x02\x01\x79\x07\x01\x01"), &ty].concat(), Some(2), 1),
@@ -571,8 +583,8 @@ fn resources_of_instances() {
     assert_eq!(ty(0).origin(), Ok(None));
 }
 
-/// A component that exports what it imports, in another, and so on: an import is its argument at any
-/// depth. Each passes twice through the one in it, which takes no longer.
+/// A component that exports what it imports, in another, and so on: an import is its argument at
+/// any depth. Each passes twice through the one in it, which takes no longer.
 #[test]
 fn arguments_at_any_depth() {
     let import = section(10, b"\x01\0\x01t\x03\x01");

@@ -134,6 +134,15 @@ fn module() -> Vec<u8> {
     module.finish()
 }
 
+const KINDS: [(&str, Kind); 6] = [
+    ("m", Kind::Module),
+    ("f", Kind::Func),
+    ("v", Kind::Value),
+    ("t", Kind::Type),
+    ("i", Kind::Instance),
+    ("c", Kind::Component),
+];
+
 /// A component with items in each space, of which each has another number, and an index in each.
 fn of_each_space() -> Vec<u8> {
     let mut builder = ComponentBuilder::default();
@@ -167,15 +176,7 @@ fn of_each_space() -> Vec<u8> {
         builder.instantiate(None, component, [] as [(&str, Kind, u32); 0]);
         builder.type_defined(None).1.primitive(PrimitiveValType::Char);
     }
-    let all = [
-        ("m", Kind::Module),
-        ("f", Kind::Func),
-        ("v", Kind::Value),
-        ("t", Kind::Type),
-        ("i", Kind::Instance),
-        ("c", Kind::Component),
-    ];
-    builder.instantiate(None, component, all.map(|(name, kind)| (name, kind, 0)));
+    builder.instantiate(None, component, KINDS.map(|(name, kind)| (name, kind, 0)));
     builder.finish()
 }
 

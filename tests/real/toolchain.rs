@@ -96,8 +96,8 @@ impl Linker {
     }
 
     /// Why upstream's validator rejects this component, if it does. The linker validates it as it
-    /// would a world, and then fails, since it is none. Most of the time would be that of `wasm-ld`,
-    /// in place of which a script copies a core module that is linked already.
+    /// would a world, and then fails, since it is none. Most of the time would be that of
+    /// `wasm-ld`, in place of which a script copies a core module that is linked already.
     pub fn refuses(&self, component: &[u8]) -> Option<String> {
         static MODULE: OnceLock<Vec<u8>> = OnceLock::new();
         let empty = || corpus::read("o/29-empty.o");

@@ -311,13 +311,17 @@ fn bad_arguments_of_nodes() {
     }
     assert_eq!(status(&none, &ty), Status::BadArgument);
     assert_eq!(status(&Walk { len: usize::MAX, ..walk }, &ty), Status::BadArgument);
+    no_pointers_to_nodes(&walk, &ty);
+}
+
+fn no_pointers_to_nodes(walk: &Walk, item: &ItemRow) {
     let (no_walk, no_item, none) = (ptr::null(), ptr::null(), ptr::null_mut());
     let visit: Option<NodeVisit> = Some(keep);
     let statuses = unsafe {
         [
-            wenc_walk_nodes(no_walk, &ty, visit, none),
-            wenc_walk_nodes(&walk, no_item, visit, none),
-            wenc_walk_nodes(&walk, &ty, None, none),
+            wenc_walk_nodes(no_walk, item, visit, none),
+            wenc_walk_nodes(walk, no_item, visit, none),
+            wenc_walk_nodes(walk, item, None, none),
         ]
     };
     assert_eq!(statuses, [Status::BadArgument; 3]);

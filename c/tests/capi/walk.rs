@@ -230,7 +230,11 @@ fn bad_arguments_of_walks() {
         ]
     };
     assert_eq!(statuses, [Status::BadArgument; 13]);
-    // Any offset, id and number.
+    bad_values_in_walks();
+}
+
+/// Any offset, id and number.
+fn bad_values_in_walks() {
     let any = [0, 1, 9, 58, COMPONENT.len(), COMPONENT.len() + 1, usize::MAX];
     let mut read = 0;
     for (next_item, end, items, id) in any.into_iter().flat_map(|at| {

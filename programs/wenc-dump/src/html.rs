@@ -25,7 +25,7 @@ const SCRIPT: &str = include_str!("html/page.js");
 /// The SHA-256 digests of the style and the script, in base64.
 const HASHES: [&str; 2] = [
     "E/DF2QIhfd8DIrVzkY8IoPC9LQcMrtcYcGm12i3Wmbs=",
-    "YbNwP9ldCv5kSWuKEWkq6/p+0cGdcdzcPckW8nHGkM4=",
+    "MEqdhenL4jVZruKXzU6zvPFuZQC5KDTBafoapo24DwQ=",
 ];
 
 /// The number of bytes of a part without items above which only its ends are on the page, and the

@@ -38,7 +38,8 @@ impl ComponentBuilder {
         /// // A module that exports `f`, which does nothing.
         /// let module = builder.core_module_raw(
         ///     None,
-        ///     b"\0asm\x01\0\0\0\x01\x04\x01\x60\0\0\x03\x02\x01\0\x07\x05\x01\x01f\0\0\x0a\x04\x01\x02\0\x0b",
+        ///     b"\0asm\x01\0\0\0\x01\x04\x01\x60\0\0\x03\x02\x01\0\
+        ///       \x07\x05\x01\x01f\0\0\x0a\x04\x01\x02\0\x0b",
         /// );
         /// let instance = builder.core_instantiate(None, module, [] as [(&str, ModuleArg); 0]);
         /// let core = builder.core_alias_export(None, instance, "f", wenc::ExportKind::Func);

@@ -75,7 +75,8 @@ impl ComponentBuilder {
         /// encoder.primitive(PrimitiveValType::String);
         /// let exports = [("t", ComponentExportKind::Type, string)];
         /// assert_eq!(builder.instantiate_exports(None, exports), 0);
-        /// assert_eq!(builder.finish()[8..], *b"\x07\x02\x01\x73\x05\x08\x01\x01\x01\0\x01t\x03\0");
+        /// assert_eq!(builder.finish()[8..], *b"\x07\x02\x01\x73\
+        ///     \x05\x08\x01\x01\x01\0\x01t\x03\0");
         /// ```
         fn instantiate_exports | try_instantiate_exports<'a, E, N>(
             &mut self,

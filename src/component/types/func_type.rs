@@ -33,8 +33,8 @@ encoders! {
 }
 
 impl ComponentFuncTypeEncoder<'_> {
-    /// Fails unless this or the other is the current stage. After an iterator of parameters panicked,
-    /// it is [`FuncStage::Done`], since it is unspecified which were written.
+    /// Fails unless this or the other is the current stage. After an iterator of parameters
+    /// panicked, it is [`FuncStage::Done`], since it is unspecified which were written.
     #[inline]
     fn at(&self, this: FuncStage, other: FuncStage) -> Result<(), Error> {
         let stage = on!(&self.by, FuncBy, encoder => encoder.stage());

@@ -44,7 +44,10 @@ macro_rules! random_enum {
                 #[allow(unused_variables, reason = "not all variants have fields")]
                 let variants: &[fn(&mut crate::tree::fields::random::Choices) -> Self] = &[$(
                     |choices| Self::$name
-                        $(({ let $one = crate::tree::fields::random::Random::random(choices); $one }))?
+                        $(({
+                            let $one = crate::tree::fields::random::Random::random(choices);
+                            $one
+                        }))?
                         $({ $($field: crate::tree::fields::random::Random::random(choices)),+ })?
                 ),+];
                 variants[choices.below(variants.len())](choices)

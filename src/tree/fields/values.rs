@@ -12,7 +12,11 @@ use core::ops::ControlFlow;
 macro_rules! leaves {
     ($($ty:ty, $value:ident, $place:tt => $node:expr;)+) => {$(
         impl Tree for $ty {
-            fn shape<'n>(&'n self, $place: Place<'n>, values: &mut Refs<'n>) -> Option<&'static Shape> {
+            fn shape<'n>(
+                &'n self,
+                $place: Place<'n>,
+                values: &mut Refs<'n>,
+            ) -> Option<&'static Shape> {
                 let $value = self;
                 values.without_shape($node)
             }
@@ -32,7 +36,11 @@ leaves! {
 macro_rules! lists {
     ($($name:ident $(<$element:ident>)?)+) => {$(
         impl<'a $(, $element: View<'a> + Tree)?> Tree for $name<'a $(, $element)?> {
-            fn shape<'n>(&'n self, place: Place<'n>, values: &mut Refs<'n>) -> Option<&'static Shape> {
+            fn shape<'n>(
+                &'n self,
+                place: Place<'n>,
+                values: &mut Refs<'n>,
+            ) -> Option<&'static Shape> {
                 values.without_shape(Node::List(List::new(self, place)))
             }
         }

@@ -37,7 +37,8 @@ impl ItemTree {
     ///     \x04\x17\0asm\x0d\0\x01\0\x06\x05\x01\x03\x02\x01\0\x0a\x06\x01\0\x01f\x01\0";
     ///
     /// // the same with an outer alias of the second
-    /// let mut items: Vec<_> = list(component)?.sections.into_iter().flat_map(|of| of.items).collect();
+    /// let sections = list(component)?.sections.into_iter();
+    /// let mut items: Vec<_> = sections.flat_map(|of| of.items).collect();
     /// items[2].outer_indices_mut(0, |used| {
     ///     assert_eq!((used.space, used.scope), (Space::Types, Scope::Component(0)));
     ///     *used.index += 1;

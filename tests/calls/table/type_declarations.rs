@@ -1,7 +1,7 @@
 //! Instance types and component types, which declare the items of other rows.
 
 use crate::bytes;
-use crate::call::{Call, Seen, Types};
+use crate::call::{Build, ByHand, Call, Seen, Types};
 use crate::refuse::calmly;
 use crate::size::{Size, times};
 use std::rc::Rc;
@@ -98,51 +98,63 @@ impl Of {
     }
 }
 
+/// A closure with a type of its own.
+macro_rules! with {
+    (|$of:ident $(, $arg:ident)*| $call:expr) => {{
+        let $of = Rc::clone($of);
+        Box::new(move |$($arg),*| $call)
+    }};
+}
+
+/// The calls of a builder that take such a type.
+fn builds(of: &Rc<Of>) -> Vec<Build> {
+    vec![
+        with!(|of, b, name, a| {
+            let (index, ty) = b.try_ty(name)?;
+            of.write(ty, a).map(|()| index)
+        }),
+        with!(|of, b, name, a| {
+            let types = of.types(a);
+            if of.is_instance {
+                b.try_type_instance(name, &types.instance)
+            } else {
+                b.try_type_component(name, &types.component)
+            }
+        }),
+    ]
+}
+
+/// The calls of a section that take such a type.
+fn hands(of: &Rc<Of>) -> Vec<ByHand> {
+    vec![
+        with!(|of, hand, a| of.write(hand.types.try_ty()?, a)),
+        with!(|of, hand, a| hand.types.try_ty()?.try_tree(&of.tree(a))),
+        with!(|of, hand, a| {
+            let types = of.types(a);
+            if of.is_instance {
+                hand.types.try_instance(&types.instance).map(|_| ())
+            } else {
+                hand.types.try_component(&types.component).map(|_| ())
+            }
+        }),
+    ]
+}
+
 /// The row of such a type, by each call that takes one.
 fn row(call: Call, way: usize) -> Call {
     let name = call.name.clone();
     let mut of = Of { call, way, is_instance: false };
     of.is_instance = !of.types(&Size::small(1)).instance.is_empty();
     let kind = if of.is_instance { "instance" } else { "component" };
-    let of = Rc::new(of);
-    macro_rules! with {
-        (|$of:ident $(, $arg:ident)*| $call:expr) => {{
-            let $of = Rc::clone(&of);
-            Box::new(move |$($arg),*| $call)
-        }};
-    }
+    let of = &Rc::new(of);
     Call {
         name: format!("{kind} type with {name}"),
         id: 7,
         space: Some(Space::Types),
         takes: 1,
         own: None,
-        builds: vec![
-            with!(|of, b, name, a| {
-                let (index, ty) = b.try_ty(name)?;
-                of.write(ty, a).map(|()| index)
-            }),
-            with!(|of, b, name, a| {
-                let types = of.types(a);
-                if of.is_instance {
-                    b.try_type_instance(name, &types.instance)
-                } else {
-                    b.try_type_component(name, &types.component)
-                }
-            }),
-        ],
-        hands: vec![
-            with!(|of, hand, a| of.write(hand.types.try_ty()?, a)),
-            with!(|of, hand, a| hand.types.try_ty()?.try_tree(&of.tree(a))),
-            with!(|of, hand, a| {
-                let types = of.types(a);
-                if of.is_instance {
-                    hand.types.try_instance(&types.instance).map(|_| ())
-                } else {
-                    hand.types.try_component(&types.component).map(|_| ())
-                }
-            }),
-        ],
+        builds: builds(of),
+        hands: hands(of),
         declares: vec![
             (0x01, with!(|of, types, a| of.write(types.component.try_ty()?, a))),
             (0x01, with!(|of, types, a| of.write(types.instance.try_ty()?, a))),

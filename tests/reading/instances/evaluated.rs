@@ -60,6 +60,11 @@ impl Around {
     }
 }
 
+/// The spaces of the component so many further out.
+fn around(here: Rc<Around>, count: u32) -> Rc<Around> {
+    (0..count).fold(here, |of, _| of.outer.clone().expect("it is in another"))
+}
+
 /// Instantiates a component with arguments. `next` is the number of the next resource type. Returns
 /// its spaces and its exports.
 pub fn instantiate(
@@ -79,13 +84,7 @@ pub fn instantiate(
             Op::OtherType => (Kind::Type, Value::OtherType),
             Op::Import(kind, name) => (*kind, arguments[name].clone()),
             Op::Component(ops) => (Kind::Component, Value::Component(ops.clone(), here.clone())),
-            Op::Outer(count, item) => {
-                let mut around = here.clone();
-                for _ in 0..*count {
-                    around = around.outer.clone().expect("it is in another");
-                }
-                (item.0, around.of(*item))
-            }
+            Op::Outer(count, item) => (item.0, around(here.clone(), *count).of(*item)),
             Op::Exports(items) => (Kind::Instance, Value::Instance(here.members(items).into())),
             Op::Instantiate(index, items) => {
                 let Value::Component(ops, around) = here.of((Kind::Component, *index)) else {

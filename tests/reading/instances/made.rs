@@ -220,6 +220,21 @@ fn resources(names: &[&str]) -> Shapes {
     names.iter().map(|name| ((*name).to_owned(), Shape::Resource)).collect()
 }
 
+/// Adds an alias of a type or component of one around to the innermost of these.
+fn alias_outer(random: &mut Random, open: &mut [Made]) {
+    let last = open.len() - 1;
+    let out = 1 + random.below(last);
+    let kind = *random.one_of(&[Kind::Type, Kind::Component]);
+    let Some((item, shape)) = open[last - out].any(random, kind) else { return };
+    let kind = match kind {
+        Kind::Type => ComponentOuterAliasKind::Type,
+        _ => ComponentOuterAliasKind::Component,
+    };
+    let (count, made) = (out as u32, &mut open[last]);
+    made.builder.alias(None, Alias::Outer { kind, count, index: item.1 });
+    made.add(Op::Outer(count, item), shape);
+}
+
 /// Adds items to the innermost of these components, each of which is in the one before it.
 pub fn grow(random: &mut Random, open: &mut Vec<Made>, count: usize) {
     for _ in 0..count {
@@ -239,18 +254,7 @@ pub fn grow(random: &mut Random, open: &mut Vec<Made>, count: usize) {
                 let inner = open.pop().expect("it is the last");
                 open[depth - 1].component(inner);
             }
-            6 if depth > 1 => {
-                let out = 1 + random.below(depth - 1);
-                let kind = *random.one_of(&[Kind::Type, Kind::Component]);
-                let Some((item, shape)) = open[depth - 1 - out].any(random, kind) else { continue };
-                let kind = match kind {
-                    Kind::Type => ComponentOuterAliasKind::Type,
-                    _ => ComponentOuterAliasKind::Component,
-                };
-                let (count, made) = (out as u32, &mut open[depth - 1]);
-                made.builder.alias(None, Alias::Outer { kind, count, index: item.1 });
-                made.add(Op::Outer(count, item), shape);
-            }
+            6 if depth > 1 => alias_outer(random, open),
             7 | 8 => {
                 if let Some((item, shape)) = made.any(random, Kind::Component) {
                     made.instantiate(random, item.1, shape);

@@ -44,7 +44,7 @@ impl Maker<'_> {
         let key = [P::Bool, P::S8, P::U8, P::S32, P::U32, P::S64, P::Char, P::String];
         let key = primitive(key[self.random.below(8)]);
         let kind = self.random.below(14);
-        let (index, encoder) = b.type_defined(None);
+        let (mut index, encoder) = b.type_defined(None);
         match kind {
             0 => encoder.record(texts.into_iter().zip(values)),
             1 => encoder.variant(texts.into_iter().zip(optionals)),
@@ -71,12 +71,10 @@ impl Maker<'_> {
             _ => {}
         }
         // a type that needs a name gets one by an import, whose index has it
-        let index = if kind < 4 {
+        if kind < 4 {
             let name = self.name(scope, "t");
-            b.import(&name, ComponentTypeRef::Type(TypeBounds::Eq(index)))
-        } else {
-            index
-        };
+            index = b.import(&name, ComponentTypeRef::Type(TypeBounds::Eq(index)));
+        }
         scope.values.push(index);
     }
 

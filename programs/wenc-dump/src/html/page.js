@@ -15,7 +15,8 @@ const clip = (text) => text.length > 160 ? text.slice(0, 150) + '… ' + text.sl
 function make(tag, props, ...kids) {
   const element = document.createElement(tag);
   for (const [key, value] of Object.entries(props ?? {})) {
-    if (key in element && key !== 'role') element[key] = value; else element.setAttribute(key, value);
+    if (key in element && key !== 'role') element[key] = value;
+    else element.setAttribute(key, value);
   }
   element.append(...kids);
   return element;
@@ -50,7 +51,8 @@ class File {
     let start = 0;
     this.rows = data.rows.map(([up, by, length, kind, ...rest], n) => {
       start += by;
-      const row = { file: this, n, s: start, e: start + length, k: KINDS[kind], kids: [], depth: 0 };
+      const row = { file: this, n, s: start, e: start + length, k: KINDS[kind], kids: [] };
+      row.depth = 0;
       if (up) row.up = n - up;
       if (kind < 2 || kind === 3) {
         let [space = -1, from, many, name, ...more] = rest;
@@ -90,15 +92,23 @@ class File {
       if (!outside.length) this.bad.add(Math.min(cause, this.size - 1));
     }
     this.differs = new Set();
-    this.left = this.lines.reduce((sum, [, from, to, of]) => sum + (of === undefined ? to - from : 0), 0);
+    this.left = 0;
+    for (const [, from, to, of] of this.lines) if (of === undefined) this.left += to - from;
   }
   lineOf(place) {
-    const [first, from, , chunk] = this.lines[Math.max(0, last(this.lines.length, (i) => this.lines[i][1] <= place))];
+    const line = last(this.lines.length, (i) => this.lines[i][1] <= place);
+    const [first, from, , chunk] = this.lines[Math.max(0, line)];
     return chunk === undefined ? first : first + Math.floor((place - from) / 16);
   }
-  chunkOf(place) { return this.chunks[Math.max(0, last(this.chunks.length, (i) => this.chunks[i][0] <= place))]; }
+  chunkOf(place) {
+    const { chunks } = this;
+    return chunks[Math.max(0, last(chunks.length, (i) => chunks[i][0] <= place))];
+  }
   byte(place) { const [from, bytes] = this.chunkOf(place); return bytes[place - from]; }
-  slice(start, end) { const [from, bytes] = this.chunkOf(start); return bytes.subarray(start - from, end - from); }
+  slice(start, end) {
+    const [from, bytes] = this.chunkOf(start);
+    return bytes.subarray(start - from, end - from);
+  }
   /** Returns the innermost row with this byte. */
   rowOf(place) {
     let row = this.parts[last(this.parts.length, (i) => this.parts[i].s <= place)];
@@ -160,16 +170,18 @@ function leafOf(row, place) {
 }
 const bytesOf = (node) => node ? node.own.flatMap(([from, to]) =>
   Array.from({ length: to - from }, (_, i) => from + i)) : [];
-const valueOf = ({ kind, word, value, text }) => ({ t: () => quoted(text), i: () => `${word} ${value}`,
-  n: () => String(value), l: () => count(value, 'element'), b: () => count(value, 'byte'),
+const valueOf = ({ kind, word, value, text }) => ({ t: () => quoted(text),
+  i: () => `${word} ${value}`, n: () => String(value), l: () => count(value, 'element'),
+  b: () => count(value, 'byte'),
   a: () => 'none' }[kind] ?? (() => word))();
 const DULL = /^(Defined|Primitive|Import|Export|NameTree|Type|false|)$/;
 /** Returns the words of a value, for a short text. */
 function words(node, most) {
   const all = [];
   each(node, (node) => {
-    const isShown = 'tin'.includes(node.kind) || ('wvr'.includes(node.kind) && !DULL.test(node.word));
-    if (all.length < most && isShown) all.push(node.word === 'true' ? node.key : valueOf(node));
+    const { kind, word } = node;
+    const isShown = 'tin'.includes(kind) || ('wvr'.includes(kind) && !DULL.test(word));
+    if (all.length < most && isShown) all.push(word === 'true' ? node.key : valueOf(node));
   });
   return all.join(' ');
 }
@@ -184,7 +196,8 @@ function label(row, isShort) {
   return row.k === 'item' ? kindOf(row) : row.k;
 }
 const parent = (row) => row.file.rows[row.up];
-const kindOf = (row) => { while (row && row.k !== 'section') row = parent(row); return row?.h ?? ''; };
+const kidsOf = (row) => row.kids.map((n) => row.file.rows[n]);
+const kindOf = (row) => !row ? '' : row.k === 'section' ? row.h : kindOf(parent(row));
 /** Returns the name of an import or an export. */
 function ownName(row) {
   if (!/^(import|export)$/.test(row.kind)) return '';
@@ -192,13 +205,14 @@ function ownName(row) {
   each(nodeOf(row), (node) => { if (node.kind === 't') texts.push(quoted(node.text)); });
   return texts.slice(0, row.core && row.kind === 'import' ? 2 : 1).join(' ');
 }
+const debugOf = (row) => row.debug === undefined ? '' : quoted(row.debug);
 function nameOf(row) {
-  const name = ownName(row), debug = row.debug === undefined ? '' : quoted(row.debug);
+  const name = ownName(row), debug = debugOf(row);
   const kind = label(row) === row.kind ? '' : row.kind;
   return name ? `${kind} ${name}${debug && ` (${debug})`}`.trim() : debug;
 }
 const brief = (row, most = 5) =>
-  [row.debug === undefined ? '' : quoted(row.debug), words(nodeOf(row), most)].filter(Boolean).join(' ');
+  [debugOf(row), words(nodeOf(row), most)].filter(Boolean).join(' ');
 
 // ---- two files: rows that are the same thing
 
@@ -224,7 +238,9 @@ function pairs(a, b, key) {
 }
 const content = (row) => {
   const { file, s, e } = row, cuts = [];
-  file.chunks.forEach(([from], i) => { if (i && from > s && from <= e) cuts.push(data[file.number].bytes[i - 1][2]); });
+  file.chunks.forEach(([from], i) => {
+    if (i && from > s && from <= e) cuts.push(data[file.number].bytes[i - 1][2]);
+  });
   let [hash, from] = [cuts.join(), s];
   while (from < e) {
     const part = file.slice(from, e);
@@ -242,8 +258,10 @@ const key = (row) => `${row.k} ${row.kind} ${ownName(row) || row.debug || ''}`;
 function align(a, b) {
   [a.other, b.other] = [b, a];
   a.differs = b.differs = (a.content ??= content(a)) !== (b.content ??= content(b));
-  const [left, right] = [a, b].map((row) => row.kids.map((n) => row.file.rows[n]));
-  left.concat(right).forEach((row) => { row.content ??= row.k === 'entry' ? row.h + row.debug : content(row); });
+  const [left, right] = [a, b].map(kidsOf);
+  left.concat(right).forEach((row) => {
+    row.content ??= row.k === 'entry' ? row.h + row.debug : content(row);
+  });
   const within = (x, y, ways) => {
     const found = ways.length ? pairs(x, y, ways[0]) : [];
     if (!ways.length) {
@@ -275,33 +293,43 @@ function compare(a, b) {
   const most = Math.max(a?.kids.length ?? 0, b?.kids.length ?? 0);
   for (let i = 0; i < most; i++) compare(a?.kids[i], b?.kids[i]);
 }
-const stateOf = (row) => files.length < 2 ? '' : !row.other ? (row.file.number ? '+' : '−') : row.differs ? '≠' : '';
+const stateOf = (row) => files.length < 2 ? ''
+  : !row.other ? (row.file.number ? '+' : '−') : row.differs ? '≠' : '';
 const SAYS = { '+': 'only in the second file', '−': 'only in the first file', '≠': 'differs' };
 
 // ---- the page
 
 const data = JSON.parse(document.getElementById('data').textContent).filter((file) => file);
 const files = data.map((of, number) => new File(of, number));
-if (!files.length) return document.body.append(make('p', { className: 'empty' }, 'Nothing could be read.'));
-if (files.length > 1 && files.every((file) => file.rows.length)) align(files[0].rows[0], files[1].rows[0]);
+const empty = (text) => make('p', { className: 'empty' }, text);
+if (!files.length) return document.body.append(empty('Nothing could be read.'));
+const [one, two] = files.map((file) => file.rows[0]);
+if (one && two) align(one, two);
 let file = files[0], [chosen, caret, finding, listed] = [file.rows[0], 0, -1, []];
 const findings = files.flatMap((file) => file.faults.map(([place, cause, what, expected]) => {
-  const row = file.rowOf(place), bad = [...file.bad].find((bad) => row?.node && bad >= row.s && bad < row.e);
+  const row = file.rowOf(place);
+  const bad = [...file.bad].find((bad) => row?.node && bad >= row.s && bad < row.e);
   return { file, what, expected, place: bad ?? Math.min(cause, file.size - 1) };
 }));
 if (files.length > 1) {
   for (const row of files.flatMap((file) => file.rows)) {
-    const isOwn = row.differs ? row.file.number === 1 && !row.kids.some((n) => stateOf(row.file.rows[n])) : !row.other && (parent(row)?.other);
-    if (stateOf(row) && isOwn) findings.push({ file: row.file, row, place: row.s, what: `${label(row)} ${nameOf(row)} ${SAYS[stateOf(row)]}`, isChange: true });
+    const { file } = row, state = stateOf(row);
+    const isOwn = row.differs ? file.number === 1 && !kidsOf(row).some(stateOf)
+      : !row.other && parent(row)?.other;
+    if (!state || !isOwn) continue;
+    const what = `${label(row)} ${nameOf(row)} ${SAYS[state]}`;
+    findings.push({ file, row, place: row.s, what, isChange: true });
   }
 }
 const open = new Set(files.flatMap(({ rows }) => rows.filter((row) => row.depth < 1
   || (row.k === 'section' && row.depth < 2 && !row.core && row.kids.length < 40))));
-const find = make('input', { type: 'search', placeholder: 'Find, or 0x52', 'aria-label': 'Find a name, an index or a byte offset' });
+const find = make('input', { type: 'search', placeholder: 'Find, or 0x52',
+  'aria-label': 'Find a name, an index or a byte offset' });
 const space = make('select', { 'aria-label': 'Index space' });
 const box = (name, role, label) => {
+  const part = (className, ...kids) => make('div', { className, role: 'presentation' }, ...kids);
   const box = make('div', { className: `scroll ${name}`, tabIndex: 0, role, 'aria-label': label },
-    make('div', { className: 'tall', role: 'presentation' }, make('div', { className: 'lines', role: 'presentation' })));
+    part('tall', part('lines')));
   return Object.assign(box, { tall: box.firstChild, inner: box.firstChild.firstChild });
 };
 const tree = box('tree', 'tree', 'Sections and items');
@@ -312,10 +340,13 @@ const item = make('section', { className: 'item', 'aria-label': 'Item', tabIndex
 const banner = make('div', { className: 'banner', role: 'status' });
 const bar = make('div', { className: 'bar', role: 'group', 'aria-label': 'Sections by size' });
 const title = make('h1', { className: 'name' }), summary = make('p');
-const KEYS = { '/': 'find', '[': 'back', ']': 'forward', n: 'next fault or difference', p: 'previous one',
-  x: 'the other file', w: 'the world as WIT, or the tree', '← ↑ ↓ →': 'move among bytes, or in the tree', Enter: 'from the tree to the bytes', '?': 'this help' };
+const KEYS = { '/': 'find', '[': 'back', ']': 'forward', n: 'next fault or difference',
+  p: 'previous one', x: 'the other file', w: 'the world as WIT, or the tree',
+  '← ↑ ↓ →': 'move among bytes, or in the tree', Enter: 'from the tree to the bytes',
+  '?': 'this help' };
 const help = make('dialog', { 'aria-label': 'Keys' }, make('h2', {}, 'Keys'), make('dl', {},
-  ...Object.entries(KEYS).flatMap(([key, what]) => [make('dt', {}, make('kbd', {}, key)), make('dd', {}, what)])),
+  ...Object.entries(KEYS).flatMap(([key, what]) =>
+    [make('dt', {}, make('kbd', {}, key)), make('dd', {}, what)])),
   make('p', {}, 'A byte’s place in the page’s address, such as #0x52, can be shared. Bytes have the colour of their section, lighter and darker by item.'),
   make('form', { method: 'dialog' }, make('button', {}, 'Close')));
 
@@ -327,12 +358,14 @@ function virtual(box, height, line) {
     const first = Math.max(0, Math.floor(box.scrollTop / height) - 8);
     const end = Math.min(total, Math.ceil((box.scrollTop + box.clientHeight) / height) + 8);
     box.inner.style.top = `${first * height}px`;
-    box.inner.replaceChildren(...Array.from({ length: Math.max(0, end - first) }, (_, i) => line(first + i)));
+    const length = Math.max(0, end - first);
+    box.inner.replaceChildren(...Array.from({ length }, (_, i) => line(first + i)));
     if (!total) box.inner.append(div('empty', file.rows.length ? 'Nothing is found.' : 'This is neither a component nor a core module.'));
   };
   box.show = (number) => {
     const top = number * height, { scrollTop, clientHeight } = box;
-    if (top < scrollTop + height || top > scrollTop + clientHeight - 3 * height) box.scrollTop = Math.max(0, top - clientHeight / 3);
+    if (top >= scrollTop + height && top <= scrollTop + clientHeight - 3 * height) return;
+    box.scrollTop = Math.max(0, top - clientHeight / 3);
   };
   box.addEventListener('scroll', () => requestAnimationFrame(() => box.draw()));
   new ResizeObserver(() => box.draw()).observe(box);
@@ -341,14 +374,17 @@ function list() {
   const text = find.value.trim().toLowerCase(), of = space.value, { rows } = file;
   listed = [];
   if (!text && !of) {
-    const add = (row) => { listed.push(row); if (open.has(row)) row.kids.forEach((n) => add(rows[n])); };
+    const add = (row) => {
+      listed.push(row);
+      if (open.has(row)) row.kids.forEach((n) => add(rows[n]));
+    };
     rows.filter((row) => row.up === undefined).forEach(add);
   } else {
     const number = /^\d+$/.test(text) ? Number(text) : null, kept = new Set();
     for (const row of rows) {
       if (of && row.x?.[0] !== of) continue;
-      const [, from, many] = row.x ?? [];
-      const isIndex = number !== null && from !== undefined && from !== null && from <= number && number < from + many;
+      const [, from = null, many] = row.x ?? [];
+      const isIndex = number !== null && from !== null && from <= number && number < from + many;
       row.text ??= `${label(row)} ${brief(row, Infinity)}`.toLowerCase();
       if (!isIndex && (number !== null || !row.text.includes(text))) continue;
       for (let up = row; up && !kept.has(up); up = parent(up)) kept.add(up);
@@ -360,15 +396,20 @@ function list() {
 const isAllOpen = () => find.value !== '' || space.value !== '';
 virtual(tree, ROW, (place) => {
   const row = listed[place], isOpen = open.has(row) || isAllOpen(), state = stateOf(row);
-  const many = row.k === 'section' && row.c !== undefined && row.c !== 1 ? ` × ${row.c.toLocaleString('en')} ` : '';
-  const line = make('div', { id: `row${row.n}`, role: 'treeitem', 'aria-level': row.depth + 1, 'aria-posinset': row.position ?? 1,
-    className: `line ${row.kind}${row === chosen ? ' chosen' : ''}${row.k === 'section' || !row.depth ? ' is-section' : ''}`,
+  const many = row.k === 'section' && (row.c ?? 1) !== 1 ? ` × ${row.c.toLocaleString('en')} ` : '';
+  const says = { className: 'state', title: SAYS[state], 'aria-label': SAYS[state] };
+  const kinds = [row.kind, row === chosen && 'chosen',
+    (row.k === 'section' || !row.depth) && 'is-section'].filter(Boolean);
+  const line = make('div', { id: `row${row.n}`, className: `line ${kinds.join(' ')}`,
+    role: 'treeitem', 'aria-level': row.depth + 1, 'aria-posinset': row.position ?? 1,
     'aria-setsize': parent(row)?.kids.length ?? 1, 'aria-selected': row === chosen },
-    make('span', { className: 'twist', 'aria-hidden': true }, row.kids.length ? (isOpen ? '▼' : '▶') : ''),
+    make('span', { className: 'twist', 'aria-hidden': true },
+      row.kids.length ? (isOpen ? '▼' : '▶') : ''),
     make('span', { className: 'swatch', 'aria-hidden': true }),
-    make('span', { className: row.k === 'unread' ? 'label bad-text' : 'label' }, `${row.k === 'unread' ? '! ' : ''}${label(row, true)}`),
+    row.k === 'unread' ? span('label bad-text', `! ${label(row)}`)
+      : span('label', label(row, true)),
     span('brief name', many + brief(row)),
-    ...(state ? [make('span', { className: 'state', title: SAYS[state], 'aria-label': SAYS[state] }, state)] : []),
+    ...(state ? [make('span', says, state)] : []),
     span('at', at(row.s)));
   if (row.kids.length) line.setAttribute('aria-expanded', isOpen);
   line.style.paddingLeft = `${6 + 13 * Math.min(row.depth, 14)}px`;
@@ -385,9 +426,10 @@ function toggle(row, wanted = !open.has(row)) {
 }
 let [leaf, kept] = [new Set(), new Set()];
 virtual(bytes, LINE, (number) => {
-  const [first, from, end, chunk] = file.lines[last(file.lines.length, (i) => file.lines[i][0] <= number)];
+  const { lines } = file;
+  const [first, from, end, chunk] = lines[last(lines.length, (i) => lines[i][0] <= number)];
   if (chunk === undefined) return div('line dots', `        ⋮  ${count(end - from, 'byte')} left out, ${at(from)} to ${at(end - 1)}`);
-  const start = from + 16 * (number - first), line = make('div', { className: 'line' }), letters = [], notes = [];
+  const start = from + 16 * (number - first), line = div('line'), letters = [], notes = [];
   const off = line.appendChild(span('off', hex(start, file.size > 0xffffff ? 8 : 6)));
   for (let place = start; place < start + 16; place++) {
     const gap = place === start + 8 ? ' half' : '', front = place === start ? ' first' : '';
@@ -397,11 +439,15 @@ virtual(bytes, LINE, (number) => {
       continue;
     }
     const row = file.rowOf(place), byte = file.byte(place);
-    if (row?.s === place && row.up !== undefined && (row.k !== 'section' || !notes.length)) notes.push(label(row));
+    const isFirst = row?.s === place && row.up !== undefined;
+    if (isFirst && (row.k !== 'section' || !notes.length)) notes.push(label(row));
     let kind = row ? `${row.kind} ${row.k === 'unread' ? 'unread' : row.odd ? 'odd' : 'even'}` : '';
     const isWithin = chosen && chosen.depth && place >= chosen.s && place < chosen.e;
     if (row && (row === chosen || isWithin)) kind += ' chosen';
-    if (file.bad.has(place)) { kind += ' bad'; off.classList.add('has-fault'); } else if (leaf.has(place)) kind += ' leaf';
+    if (file.bad.has(place)) {
+      kind += ' bad';
+      off.classList.add('has-fault');
+    } else if (leaf.has(place)) kind += ' leaf';
     if (file.differs.has(place) || (row && stateOf(row) && !row.other)) kind += ' differs';
     if (place === caret) kind += ' caret';
     line.append(Object.assign(make('b', { className: kind + gap }, hex(byte, 2)), { place }));
@@ -413,10 +459,12 @@ virtual(bytes, LINE, (number) => {
 });
 
 /** Returns whether a line of WIT comes from the row that is shown. */
-const isChosen = (place) => place > 0 && chosen?.k === 'item' && place >= chosen.s && place < chosen.e;
+const isChosen = (place) =>
+  place > 0 && chosen?.k === 'item' && place >= chosen.s && place < chosen.e;
 virtual(wit, LINE, (number) => {
   const [text, place] = file.wit[number], isOn = isChosen(place);
-  const line = make('div', { className: `line${isOn ? ' chosen' : ''}`, role: 'option', 'aria-selected': isOn }, visible(text));
+  const className = isOn ? 'line chosen' : 'line';
+  const line = make('div', { className, role: 'option', 'aria-selected': isOn }, visible(text));
   if (place) line.onclick = () => go(place);
   return line;
 });
@@ -437,27 +485,30 @@ function tell(place, live = 'polite') {
   if (!row || byte === undefined) return;
   const [what, more] = meaningOf(row, place);
   if (what) status.append(make('br'), clip(what));
-  if (more) status.append(make('br'), span('dim', / /.test(more) ? `Here can be ${more}.` : `Only ${more} can be here.`));
+  const says = / /.test(more) ? `Here can be ${more}.` : `Only ${more} can be here.`;
+  if (more) status.append(make('br'), span('dim', says));
 }
 function meaningOf(row, place) {
   const i = place - row.s;
   if (row.k === 'section') {
-    if (i < row.front) return [i ? `size: ${row.e - row.s - row.front}` : `id ${row.id}: ${label(row)}`];
-    return [row.c === undefined ? 'content' : `count: ${row.c}`];
+    if (i >= row.front) return [row.c === undefined ? 'content' : `count: ${row.c}`];
+    return [i ? `size: ${row.e - row.s - row.front}` : `id ${row.id}: ${label(row)}`];
   }
   if (row.k === 'component' || row.k === 'module') return [`header: ${i < 4 ? '\\0asm' : 'version and layer'}`];
   if (row.k === 'unread') {
-    const fault = file.faults.find(([, cause]) => Math.min(cause, file.size - 1) === place);
+    const fault = file.faults.find(([, cause]) => within(cause) === place);
     return [fault?.[2] ?? 'not read', fault?.[3]];
   }
   const node = leafOf(row, place);
-  if (!node) return [row.debug === undefined ? '' : quoted(row.debug)];
+  if (!node) return [debugOf(row)];
   const path = [];
-  for (let up = node; up; up = up.up) path.unshift(...[up.position, up.key].filter((key) => key !== undefined && key !== ''));
+  const isKey = (key) => key !== undefined && key !== '';
+  for (let up = node; up; up = up.up) path.unshift(...[up.position, up.key].filter(isKey));
   const run = node.own.find(([from, to]) => place >= from && place < to);
   const part = run && node.kind === 't' && run !== node.own.at(-1) ? 'length of ' : '';
   const own = `${part}${node.kind === 'r' ? `kind of ${valueOf(node) || 'value'}` : valueOf(node)}`;
-  return [[path.join(' › '), node.kind === 'i' ? own.replace(/ (\d+)$/, ' index $1') : own].filter(Boolean).join(': '), run?.[2][place - run[0]]];
+  const what = node.kind === 'i' ? own.replace(/ (\d+)$/, ' index $1') : own;
+  return [[path.join(' › '), what].filter(Boolean).join(': '), run?.[2][place - run[0]]];
 }
 const linkTo = (place, text, of = file) => make('a', { href: '#' + at(place), onclick: (event) => {
   event.preventDefault();
@@ -466,7 +517,8 @@ const linkTo = (place, text, of = file) => make('a', { href: '#' + at(place), on
 } }, text);
 function linkToRow(row, most = 4) {
   const size = row.k === 'section' ? `${row.c === undefined ? '' : count(row.c, 'item') + ', '}${count(row.e - row.s, 'byte')} ` : '';
-  return make('span', {}, linkTo(row.s, label(row), row.file), ' ', span('brief name', size + brief(row, most)));
+  const name = span('brief name', size + brief(row, most));
+  return make('span', {}, linkTo(row.s, label(row), row.file), ' ', name);
 }
 /** Marks the bytes of a value and of those within it. */
 function mark(node) {
@@ -476,25 +528,29 @@ function mark(node) {
 }
 /** Returns a value: what is on its line, and the lines of its parts. */
 function lineOf(node) {
-  const piece = (className, text) => Object.assign(span(`${className} node`, text), { node,
-    onmouseenter: () => mark(node), onmouseleave: () => mark(), onclick: () => { if (node.e > node.s) go(node.s); } });
+  const marks = { node, onmouseenter: () => mark(node), onmouseleave: () => mark() };
+  const onclick = () => { if (node.e > node.s) go(node.s); };
+  const piece = (className, text = valueOf(node)) =>
+    Object.assign(span(`${className} node`, text), marks, { onclick });
   const word = (className) => node.word ? [piece(className, node.word)] : [];
-  const kinds = { t: () => [piece('string name', valueOf(node))], n: () => [piece('word', valueOf(node))],
-    a: () => [piece('key', 'none')], w: () => word('word'), v: () => word('word'),
-    b: () => [piece('key', valueOf(node))], l: () => [piece('key', node.value ? valueOf(node) : 'empty')],
+  const kinds = { t: () => [piece('string name')], n: () => [piece('word')],
+    a: () => [piece('key')], w: () => word('word'), v: () => word('word'), b: () => [piece('key')],
+    l: () => [piece('key', node.value ? valueOf(node) : 'empty')],
     r: () => word(/Tree$/.test(node.word) ? 'key' : 'word') };
   if (node.kind === 'i') {
     const target = node.link > 0 && file.rowOf(node.link), text = valueOf(node);
     const link = target ? linkTo(node.link, text) : make('span', {}, text);
-    Object.assign(link, { node, onmouseenter: () => mark(node), onmouseleave: () => mark() });
-    if (node.link < 0) return [[Object.assign(link, { className: 'bad-text' }), span('bad-text', `! out of range: there are ${-1 - node.link}`)], []];
-    const more = !target ? '' : target === chosen ? `at ${at(node.link)} in this item` : brief(target, 3);
+    Object.assign(link, marks);
+    if (node.link < 0) return [[Object.assign(link, { className: 'bad-text' }),
+      span('bad-text', `! out of range: there are ${-1 - node.link}`)], []];
+    const more = !target ? ''
+      : target === chosen ? `at ${at(node.link)} in this item` : brief(target, 3);
     return [[link, span('key name', more)], []];
   }
   const inline = kinds[node.kind](), below = [];
   const parts = node.kids.map((kid) => [kid, ...lineOf(kid)]);
-  const isShort = node.kind === 'v' || (node.kind === 'r' && !node.word)
-    || (node.kind === 'r' && parts.length < 4 && parts.every(([, more, deeper]) => !deeper.length && more.length < 5));
+  const isShort = node.kind === 'v' || (node.kind === 'r' && (!node.word
+    || (parts.length < 4 && parts.every(([, more, deeper]) => !deeper.length && more.length < 5))));
   for (const [kid, more, deeper] of parts) {
     if (node.kind !== 'l' && isShort) {
       if (node.kind === 'r' && node.word) inline.push(span('key', `${kid.key}:`));
@@ -511,35 +567,50 @@ function laid(key, inline, below) {
 }
 function section(title, rows, shown = linkToRow) {
   if (!rows.length) return item.append(make('h3', {}, title));
-  item.append(make('h3', {}, title), make('ul', { className: 'links' }, ...rows.slice(0, 200).map((row) => make('li', {}, shown(row)))));
-  if (rows.length > 200) item.append(make('p', { className: 'empty' }, `and ${rows.length - 200} more`));
+  const lines = rows.slice(0, 200).map((row) => make('li', {}, shown(row)));
+  item.append(make('h3', {}, title), make('ul', { className: 'links' }, ...lines));
+  if (rows.length > 200) item.append(empty(`and ${rows.length - 200} more`));
 }
 function describe() {
   const row = chosen;
-  if (!row) return item.replaceChildren(make('p', { className: 'empty' }, 'The bytes can’t be read.'));
+  if (!row) return item.replaceChildren(empty('The bytes can’t be read.'));
   const crumbs = [], facts = make('dl', { className: 'facts' }), state = stateOf(row);
   for (let up = parent(row); up; up = parent(up)) crumbs.unshift(linkTo(up.s, label(up)), ' › ');
   const fact = (key, value) => facts.append(make('dt', {}, key), make('dd', {}, value));
   fact('bytes', `${at(row.s)} to ${at(row.e - 1)}: ${count(row.e - row.s, 'byte')}`);
   if (row.c !== undefined) fact('items', row.c.toLocaleString('en'));
-  for (const [key, place] of [['same as', row.same], ['finally', row.last], ['type', row.type], ['comes from', row.origin]]) {
+  for (const [key, place] of [['same as', row.same], ['finally', row.last], ['type', row.type],
+    ['comes from', row.origin]]) {
     const to = place && file.rowOf(place);
     if (to) fact(key, make('span', {}, linkToRow(to, 6), to.s === place ? '' : ` at ${at(place)}`));
   }
   const line = file.wit.findIndex(([, place]) => isChosen(place));
-  if (line >= 0) fact('WIT', make('button', { className: 'link', onclick: () => showWit(true, line) }, visible(file.wit[line][0].trim())));
-  if (files.length > 1) fact('other file', row.other ? make('span', {}, linkToRow(row.other), row.differs ? ' ≠ differs' : ' the same bytes') : `${state} ${SAYS[state]}`);
-  const wrong = file.faults.filter(([place, cause]) => file.rowOf(Math.min(place, file.size - 1)) === row
+  const onclick = () => showWit(true, line);
+  if (line >= 0) {
+    fact('WIT', make('button', { className: 'link', onclick }, visible(file.wit[line][0].trim())));
+  }
+  const { other } = row, same = row.differs ? ' ≠ differs' : ' the same bytes';
+  if (files.length > 1) {
+    const says = other ? make('span', {}, linkToRow(other), same) : `${state} ${SAYS[state]}`;
+    fact('other file', says);
+  }
+  const wrong = file.faults.filter(([place, cause]) => file.rowOf(within(place)) === row
     || (cause >= row.s && cause < row.e && row.k !== 'component' && row.k !== 'section'));
   item.replaceChildren(div('crumbs', ...crumbs),
     make('h2', {}, label(row), ' ', span('name', nameOf(row))), facts,
     ...wrong.map(([, , what]) => make('p', { className: 'bad-text' }, `! ${visible(what)}`)));
-  if (nodeOf(row)) item.append(make('h3', {}, kindOf(row)), make('ul', { className: 'nodes' }, laid('', ...lineOf(nodeOf(row)))));
-  const kids = row.kids.map((n) => file.rows[n]).filter((kid) => kid.k !== 'unread');
-  if (kids.length) section('Contains', kids, (kid) => kid.k === 'entry' ? span('name', `${label(kid)} ${brief(kid)}`) : linkToRow(kid));
+  const node = nodeOf(row);
+  if (node) {
+    const nodes = make('ul', { className: 'nodes' }, laid('', ...lineOf(node)));
+    item.append(make('h3', {}, kindOf(row)), nodes);
+  }
+  const kids = kidsOf(row).filter((kid) => kid.k !== 'unread');
+  if (kids.length) section('Contains', kids, (kid) =>
+    kid.k === 'entry' ? span('name', `${label(kid)} ${brief(kid)}`) : linkToRow(kid));
   if (row.x?.[2] > 0) {
     const users = [...(file.users.get(row.s) ?? [])].map((n) => file.rows[n]);
-    section(`Used by ${users.length || 'nothing here'}`, users, (user) => make('span', {}, user.x ? '' : `${kindOf(user)} `, linkToRow(user)));
+    section(`Used by ${users.length || 'nothing here'}`, users, (user) =>
+      make('span', {}, user.x ? '' : `${kindOf(user)} `, linkToRow(user)));
   }
   item.scrollTop = 0;
 }
@@ -550,7 +621,10 @@ function choose(row, place = row?.s ?? 0, isNew = true) {
   [chosen, caret] = [row, place];
   for (let up = row && parent(row); up; up = parent(up)) open.add(up);
   list();
-  if (row) { tree.show(listed.indexOf(row)); tree.setAttribute('aria-activedescendant', `row${row.n}`); }
+  if (row) {
+    tree.show(listed.indexOf(row));
+    tree.setAttribute('aria-activedescendant', `row${row.n}`);
+  }
   const node = row && place !== row.s ? leafOf(row, place) : undefined;
   leaf = kept = new Set(bytesOf(node));
   bytes.show(file.lineOf(place));
@@ -559,8 +633,10 @@ function choose(row, place = row?.s ?? 0, isNew = true) {
   bytes.draw(file.lineCount);
   describe();
   tell(place);
-  item.querySelectorAll('.nodes *').forEach((span) => span.classList.toggle('leaf', !!node && span.node === node));
-  [...bar.children].forEach((button) => button.classList.toggle('here', !!row && row.s >= button.row.s && row.s < button.row.e));
+  item.querySelectorAll('.nodes *').forEach((span) =>
+    span.classList.toggle('leaf', !!node && span.node === node));
+  [...bar.children].forEach(({ classList, row: of }) =>
+    classList.toggle('here', !!row && row.s >= of.s && row.s < of.e));
   const hash = hashOf(place);
   if (isNew && location.hash !== hash) history.pushState((history.state ?? 0) + 1, '', hash);
 }
@@ -572,8 +648,10 @@ function showFinding(step) {
   finding = (finding + step + findings.length) % findings.length;
   const { file: of, row, what, expected, place, isChange } = findings[finding];
   const button = (text, by) => make('button', { onclick: () => showFinding(by) }, text);
-  banner.replaceChildren(make('strong', {}, `${isChange ? '≠ Difference' : '! Fault'} ${finding + 1} of ${findings.length}`),
-    make('span', {}, (files.length > 1 ? `${visible(of.name)}: ` : '') + visible(what), ...(expected ? [make('small', {}, `Expected there: ${expected}.`)] : [])),
+  const kind = isChange ? '≠ Difference' : '! Fault';
+  banner.replaceChildren(make('strong', {}, `${kind} ${finding + 1} of ${findings.length}`),
+    make('span', {}, (files.length > 1 ? `${visible(of.name)}: ` : '') + visible(what),
+      ...(expected ? [make('small', {}, `Expected there: ${expected}.`)] : [])),
     ...(findings.length > 1 ? [button('Previous', -1), button('Next', 1)] : []), button('Show', 0));
   banner.classList.toggle('bad', !isChange);
   show(of);
@@ -583,19 +661,25 @@ function showFinding(step) {
 function show(of, isFirst) {
   if (of === file && !isFirst) return;
   file = of;
-  const { rows, size, left, faults } = file, top = (rows[0]?.kids ?? []).map((n) => rows[n]).filter((row) => row.k !== 'entry');
-  const isMany = top.length >= 100, many = (kind) => count(rows.filter((row) => row.k === kind).length, kind);
+  const { rows, size, left, faults } = file;
+  const top = rows[0] ? kidsOf(rows[0]).filter((row) => row.k !== 'entry') : [];
+  const isMany = top.length >= 100;
+  const many = (kind) => count(rows.filter((row) => row.k === kind).length, kind);
+  const spaces = [...new Set(rows.filter((row) => row.x).map((row) => row.x[0]))].sort();
   space.replaceChildren(make('option', { value: '' }, 'all items'),
-    ...[...new Set(rows.filter((row) => row.x).map((row) => row.x[0]))].sort().map((name) => make('option', { value: name }, name)));
+    ...spaces.map((value) => make('option', { value }, value)));
   bar.hidden = !top.length;
   bar.classList.toggle('many', isMany);
   bar.replaceChildren(...top.slice(0, 400).map((row) => {
-    const text = (row.e - row.s) / size * innerWidth > 70 && !isMany ? label(row, true) : '', what = `${label(row)}, ${count(row.e - row.s, 'byte')}`;
-    const button = make('button', { className: row.kind, title: what, 'aria-label': what, onclick: () => choose(row) }, text);
+    const text = (row.e - row.s) / size * innerWidth > 70 && !isMany ? label(row, true) : '';
+    const title = `${label(row)}, ${count(row.e - row.s, 'byte')}`, onclick = () => choose(row);
+    const props = { className: row.kind, title, 'aria-label': title, onclick };
+    const button = Object.assign(make('button', props, text), { row });
     button.style.flexGrow = row.e - row.s;
-    return Object.assign(button, { row });
+    return button;
   }));
-  const notes = [left && `${count(left, 'byte')} of core modules and custom sections are left out.`, file.short && 'The file is large: later items are left out.'];
+  const notes = [left && `${count(left, 'byte')} of core modules and custom sections are left out.`,
+    file.short && 'The file is large: later items are left out.'];
   title.textContent = visible(file.name);
   summary.textContent = `${rows[0] ? label(rows[0]) : 'unknown file'} · ${count(size, 'byte')} · ${many('section')} · ${many('item')}${faults.length ? ` · ${count(faults.length, 'fault')}` : ''}. ${notes.filter(Boolean).join(' ')}`;
   [...names.children].forEach((tab, i) => tab.setAttribute('aria-pressed', files[i] === file));
@@ -610,28 +694,37 @@ const swap = () => {
   show(files[1 - file.number]);
   if (other) choose(other); else go(0);
 };
-const names = make('div', { className: 'files', role: 'group', 'aria-label': 'Files' }, ...(files.length < 2 ? [] : files)
-  .map((of, i) => make('button', { onclick: () => { if (of !== file) swap(); } }, `${'AB'[i]}: ${visible(of.name)}`)));
-const tabs = ['Items', 'WIT'].map((name, i) => make('button', { role: 'tab', onclick: () => showWit(i === 1) }, name));
+const names = make('div', { className: 'files', role: 'group', 'aria-label': 'Files' },
+  ...(files.length < 2 ? [] : files).map((of, i) => {
+    const onclick = () => { if (of !== file) swap(); };
+    return make('button', { onclick }, `${'AB'[i]}: ${visible(of.name)}`);
+  }));
+const tabs = ['Items', 'WIT'].map((name, i) =>
+  make('button', { role: 'tab', onclick: () => showWit(i === 1) }, name));
 const tabList = make('div', { className: 'tabs', role: 'tablist' }, ...tabs);
 wit.hidden = true;
 document.body.append(
-  make('header', {}, title, summary, names, make('button', { onclick: () => help.showModal(), title: 'Keys (?)' }, 'Keys')),
-  bar, banner, make('main', {}, make('section', { className: 'tree', 'aria-label': 'Tree' }, tabList, div('find', find, space), tree, wit),
+  make('header', {}, title, summary, names,
+    make('button', { onclick: () => help.showModal(), title: 'Keys (?)' }, 'Keys')),
+  bar, banner, make('main', {}, make('section', { className: 'tree', 'aria-label': 'Tree' },
+    tabList, div('find', find, space), tree, wit),
     make('section', { className: 'bytes', 'aria-label': 'Bytes' }, bytes, status), item), help);
 banner.hidden = !findings.length;
 
 // ---- keys and the address
 
-bytes.addEventListener('click', ({ target }) => { if (target.place !== undefined) go(target.place); });
-bytes.addEventListener('mouseover', ({ target }) => {
-  if (target.place === undefined) return;
-  tell(target.place, 'off');
-  leaf = new Set(bytesOf(leafOf(file.rowOf(target.place), target.place)));
-  bytes.querySelectorAll('b, i').forEach((cell) => cell.classList.toggle('leaf', leaf.has(cell.place) && !file.bad.has(cell.place)));
+bytes.addEventListener('click', ({ target: { place } }) => { if (place !== undefined) go(place); });
+bytes.addEventListener('mouseover', ({ target: { place } }) => {
+  if (place === undefined) return;
+  tell(place, 'off');
+  leaf = new Set(bytesOf(leafOf(file.rowOf(place), place)));
+  bytes.querySelectorAll('b, i').forEach(({ classList, place }) =>
+    classList.toggle('leaf', leaf.has(place) && !file.bad.has(place)));
 });
 bytes.addEventListener('mouseleave', () => { mark(); tell(caret, 'off'); });
-for (const [input, name] of [[find, 'input'], [space, 'change']]) input.addEventListener(name, () => { tree.scrollTop = 0; list(); });
+for (const [input, name] of [[find, 'input'], [space, 'change']]) {
+  input.addEventListener(name, () => { tree.scrollTop = 0; list(); });
+}
 find.addEventListener('keydown', ({ key }) => {
   const text = find.value.trim();
   if (key === 'Escape') { find.value = ''; list(); tree.focus(); }
@@ -642,14 +735,19 @@ find.addEventListener('keydown', ({ key }) => {
   if (hit) choose(hit);
 });
 tree.addEventListener('keydown', (event) => {
-  const place = listed.indexOf(chosen), row = listed[place] ?? file.rows[0], end = listed.length - 1;
+  const place = listed.indexOf(chosen), row = listed[place] ?? file.rows[0];
   if (!row) return;
-  const to = { ArrowDown: place + 1, ArrowUp: place - 1, Home: 0, End: end, PageDown: Math.min(place + 15, end), PageUp: Math.max(place - 15, 0) }[event.key];
+  const { key } = event, end = listed.length - 1;
+  const to = { ArrowDown: place + 1, ArrowUp: place - 1, Home: 0, End: end,
+    PageDown: Math.min(place + 15, end), PageUp: Math.max(place - 15, 0) }[key];
   const { rows } = file, kids = row.kids.length;
-  if (to !== undefined) { if (listed[to]) choose(listed[to]); }
-  else if (event.key === 'ArrowRight') { if (kids && !open.has(row)) toggle(row, true); else if (kids) choose(rows[row.kids[0]]); }
-  else if (event.key === 'ArrowLeft') { if (kids && open.has(row)) toggle(row, false); else if (parent(row)) choose(parent(row)); }
-  else if (event.key === 'Enter') bytes.focus();
+  if (to !== undefined) {
+    if (listed[to]) choose(listed[to]);
+  } else if (key === 'ArrowRight') {
+    if (kids && !open.has(row)) toggle(row, true); else if (kids) choose(rows[row.kids[0]]);
+  } else if (key === 'ArrowLeft') {
+    if (kids && open.has(row)) toggle(row, false); else if (parent(row)) choose(parent(row));
+  } else if (key === 'Enter') bytes.focus();
   else return;
   event.preventDefault();
 });
@@ -663,7 +761,8 @@ wit.addEventListener('keydown', (event) => {
 });
 bytes.addEventListener('keydown', (event) => {
   const page = 16 * Math.floor(bytes.clientHeight / LINE), column = caret % 16;
-  const by = { ArrowRight: 1, ArrowLeft: -1, ArrowDown: 16, ArrowUp: -16, PageDown: page, PageUp: -page, Home: -column, End: 15 - column }[event.key];
+  const by = { ArrowRight: 1, ArrowLeft: -1, ArrowDown: 16, ArrowUp: -16, PageDown: page,
+    PageUp: -page, Home: -column, End: 15 - column }[event.key];
   if (by === undefined) return;
   event.preventDefault();
   go(caret + by, false);
@@ -672,8 +771,10 @@ bytes.addEventListener('keydown', (event) => {
 document.addEventListener('keydown', (event) => {
   const isTyped = (event.ctrlKey || event.altKey) && !event.getModifierState('AltGraph');
   if (isTyped || event.metaKey || /^(INPUT|SELECT)$/.test(event.target.tagName)) return;
-  const act = { '/': () => find.focus(), '[': () => { if (history.state > 0) history.back(); }, ']': () => history.forward(),
-    w: () => showWit(wit.hidden && file.wit.length > 0), n: () => showFinding(1), p: () => showFinding(-1), x: swap, '?': () => help.showModal() }[event.key];
+  const act = { '/': () => find.focus(), '[': () => { if (history.state > 0) history.back(); },
+    ']': () => history.forward(), w: () => showWit(wit.hidden && file.wit.length > 0),
+    n: () => showFinding(1), p: () => showFinding(-1), x: swap,
+    '?': () => help.showModal() }[event.key];
   if (act) { event.preventDefault(); act(); }
 });
 /** Shows the byte of the page's address; false if it has none. */

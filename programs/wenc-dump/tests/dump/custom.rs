@@ -30,7 +30,8 @@ fn producers_in_json() {
         {\"field\":\"language\",\"name\":\"C\",\"version\":\"\"},\
         {\"field\":\"language\",\"name\":\"Rust\",\"version\":\"2024\"}],\"unread\":null}";
     let out = format!(
-        "{{\"version\":1,\"file\":\"-\",\"component\":{{\"start\":0,\"end\":44,\"name\":null,\"sections\":[\
+        "{{\"version\":1,\"file\":\"-\",\"component\":\
+        {{\"start\":0,\"end\":44,\"name\":null,\"sections\":[\
         {{\"start\":8,\"end\":44,\"id\":0,\"kind\":\"custom\",\"count\":1,\"items\":[\
         {{\"start\":10,\"end\":44,\"space\":null,\"index\":null,\"count\":0,\"name\":null,\
         \"item\":{{\"name\":\"producers\",\"size\":24,{listed}}}]}}]}},\"fault\":null}}\n"

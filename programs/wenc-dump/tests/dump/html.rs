@@ -45,13 +45,15 @@ fn of_a_function() {
     assert!(data.contains(&rows.concat()), "{data}");
     assert!(data.contains("\"words\":[\"type\",\"import\",\"func\"]"), "{data}");
     // a kind before the name, the length of that, a kind before the index, and what may be there
-    let shape = "[\"r\",\"\",\"Import\",[\"r\",\"name\",\"NameTree\",1,\"3\",[\"t\",\"name\",\"\",1]],\
+    let shape = "[\"r\",\"\",\"Import\",\
+        [\"r\",\"name\",\"NameTree\",1,\"3\",[\"t\",\"name\",\"\",1]],\
         [\"v\",\"ty\",\"Func\",1,\"4\",[\"i\",\"\",\"type\",1]]]";
     assert!(data.contains(shape), "{data}");
     assert!(data.contains("\"bytes\":[[0,\"AGFzbQ0AAQAHBQFAAAEACgYBAAFmAQA=\""), "{data}");
 }
 
-/// The page of README's component is in the documentation; `PAGE=write` in the environment writes it.
+/// The page of README's component is in the documentation; `PAGE=write` in the environment writes
+/// it.
 #[test]
 fn of_the_documentation() {
     let sections =
