@@ -51,6 +51,10 @@ fn sections_without_an_end() {
     let import = section(10, b"\x01\0\x01f\x01\0");
     let export = section(11, b"\x01\0\x01g\x01\0\0");
     read(&[&types(1, &[FUNC]), &inner, &import, &export], |all| {
+        is_unread(all, Space::Funcs, 0, 32);
+        is_unread(all, Space::Funcs, 1, 32);
+    });
+    read(&[&types(1, &[FUNC]), &import, &export, &inner], |all| {
         let of = all.component().resolve(Space::Funcs, 1).expect("it is known");
         assert_eq!((of.name(), of.index()), (Some("f"), Some(0)));
         assert!(of.ty().is_ok_and(|ty| ty.is_some_and(|ty| ty.place() == 11)));

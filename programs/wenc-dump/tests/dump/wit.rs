@@ -229,7 +229,7 @@ fn expect_document(name: &str, component: &[u8], document: &str) {
     let (status, out, err) = dump(&["--wit"], component);
     assert_eq!(out, document, "{name}");
     let notes = document.lines().filter_map(|line| line.trim_start().strip_prefix("// "));
-    let messages: String = notes.map(|note| format!("-: {note}\n")).collect();
+    let messages: String = notes.map(|note| format!("wenc-dump: -: {note}\n")).collect();
     assert_eq!((status, err), (u8::from(!messages.is_empty()), messages), "{name}");
 }
 
