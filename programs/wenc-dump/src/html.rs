@@ -19,13 +19,13 @@ use wenc::scope::{Definition, Instances};
 use wenc::tree::{Space, UsedIndex};
 use world::Places;
 
-const STYLE: &str = include_str!("html/page.css");
-const SCRIPT: &str = include_str!("html/page.js");
+const STYLE: Embedded = Embedded(include_str!("html/page.css"));
+const SCRIPT: Embedded = Embedded(include_str!("html/page.js"));
 
 /// The SHA-256 digests of the style and the script, in base64.
 const HASHES: [&str; 2] = [
-    "E/DF2QIhfd8DIrVzkY8IoPC9LQcMrtcYcGm12i3Wmbs=",
-    "YbNwP9ldCv5kSWuKEWkq6/p+0cGdcdzcPckW8nHGkM4=",
+    "Wa0MsWY92lVif6A/DImSE9r17yvcfYY/2ZRX6Ia5/ik=",
+    "uTY/x1dAy2JsYLqdY2O0xs5qQxa0CtoPqquBTXERZeA=",
 ];
 
 /// The number of bytes of a part without items above which only its ends are on the page, and the
@@ -47,6 +47,19 @@ const FAULTS: usize = 1_000;
 
 /// The number of bytes of plain text for readers without scripts.
 pub const TEXT: usize = 0x8_0000;
+
+/// A style or a script without the indentation and the comments of its source.
+struct Embedded(&'static str);
+
+impl Display for Embedded {
+    fn fmt(&self, f: &mut fmt::Formatter<'_>) -> fmt::Result {
+        let lines = self.0.lines().map(str::trim_start);
+        lines.filter(|line| !line.starts_with('/')).try_for_each(|line| {
+            f.write_str(line)?;
+            f.write_str("\n")
+        })
+    }
+}
 
 /// Text within HTML.
 pub struct Escaped<'a>(pub &'a str);
