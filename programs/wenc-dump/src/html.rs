@@ -19,8 +19,8 @@ use wenc::scope::{Definition, Instances};
 use wenc::tree::{Space, UsedIndex};
 use world::Places;
 
-const STYLE: Embedded = Embedded(include_str!("html/page.css"), &[':', ';', ',', '{']);
-const SCRIPT: Embedded = Embedded(include_str!("html/page.js"), &[]);
+const STYLE: Embedded = Embedded::Style(include_str!("html/page.css"));
+const SCRIPT: Embedded = Embedded::Script(include_str!("html/page.js"));
 
 /// The SHA-256 digests of the style and the script, in base64.
 const HASHES: [&str; 2] = [
@@ -48,16 +48,26 @@ const FAULTS: usize = 1_000;
 /// The number of bytes of plain text for readers without scripts.
 pub const TEXT: usize = 0x8_0000;
 
-/// A style or a script without the indentation and the comments of its source, nor spaces after
-/// these characters.
-struct Embedded(&'static str, &'static [char]);
+/// A style or a script without the indentation and the comments of its source; of a style, also
+/// without spaces after punctuation.
+enum Embedded {
+    Style(&'static str),
+    Script(&'static str),
+}
 
 impl Display for Embedded {
     fn fmt(&self, f: &mut fmt::Formatter<'_>) -> fmt::Result {
-        let mut lines = self.0.lines().filter(|line| !line.trim_start().starts_with('/'));
-        lines.try_for_each(|line| {
-            let mut pieces = line.split_inclusive(self.1);
-            pieces.try_for_each(|piece| f.write_str(piece.trim_start()))?;
+        let (Self::Style(text) | Self::Script(text)) = self;
+        let lines = text.lines().map(str::trim_ascii_start);
+        lines.filter(|line| !line.starts_with('/')).try_for_each(|line| {
+            let mut rest = line;
+            while let Self::Style(_) = self {
+                let end = rest.bytes().position(|byte| matches!(byte, b':' | b';' | b',' | b'{'));
+                let Some(end) = end else { break };
+                f.write_str(&rest[..=end])?;
+                rest = rest[end + 1..].trim_ascii_start();
+            }
+            f.write_str(rest)?;
             f.write_str("\n")
         })
     }
