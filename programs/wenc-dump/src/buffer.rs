@@ -9,7 +9,7 @@ use std::str;
 pub struct Buffer(pub String);
 
 /// The number of bytes for which there is memory at least, so that few writes ask for more.
-const MORE: usize = 96;
+const MORE: usize = 192;
 
 impl fmt::Write for Buffer {
     fn write_str(&mut self, text: &str) -> fmt::Result {

@@ -19,13 +19,13 @@ use wenc::scope::{Definition, Instances};
 use wenc::tree::{Space, UsedIndex};
 use world::Places;
 
-const STYLE: Embedded = Embedded(include_str!("html/page.css"));
-const SCRIPT: Embedded = Embedded(include_str!("html/page.js"));
+const STYLE: Embedded = Embedded::Style(include_str!("html/page.css"));
+const SCRIPT: Embedded = Embedded::Script(include_str!("html/page.js"));
 
 /// The SHA-256 digests of the style and the script, in base64.
 const HASHES: [&str; 2] = [
-    "Wa0MsWY92lVif6A/DImSE9r17yvcfYY/2ZRX6Ia5/ik=",
-    "uTY/x1dAy2JsYLqdY2O0xs5qQxa0CtoPqquBTXERZeA=",
+    "kofHW3bBQzVJDqp+qBU/0BP25oB518xv0aFp9E8Jvis=",
+    "x9IHjCnWPQTdXCoMxmVD9yb3cjPPws8YhnfQxOauob4=",
 ];
 
 /// The number of bytes of a part without items above which only its ends are on the page, and the
@@ -48,14 +48,26 @@ const FAULTS: usize = 1_000;
 /// The number of bytes of plain text for readers without scripts.
 pub const TEXT: usize = 0x8_0000;
 
-/// A style or a script without the indentation and the comments of its source.
-struct Embedded(&'static str);
+/// A style or a script without the indentation and the comments of its source; of a style, also
+/// without spaces after punctuation.
+enum Embedded {
+    Style(&'static str),
+    Script(&'static str),
+}
 
 impl Display for Embedded {
     fn fmt(&self, f: &mut fmt::Formatter<'_>) -> fmt::Result {
-        let lines = self.0.lines().map(str::trim_start);
+        let (Self::Style(text) | Self::Script(text)) = self;
+        let lines = text.lines().map(str::trim_ascii_start);
         lines.filter(|line| !line.starts_with('/')).try_for_each(|line| {
-            f.write_str(line)?;
+            let mut rest = line;
+            while let Self::Style(_) = self {
+                let end = rest.bytes().position(|byte| matches!(byte, b':' | b';' | b',' | b'{'));
+                let Some(end) = end else { break };
+                f.write_str(&rest[..=end])?;
+                rest = rest[end + 1..].trim_ascii_start();
+            }
+            f.write_str(rest)?;
             f.write_str("\n")
         })
     }
@@ -456,7 +468,6 @@ pub fn begin(out: &mut dyn Write, name: &str) -> io::Result<()> {
          style-src 'sha256-{style}'; script-src 'sha256-{script}'; base-uri 'none'; \
          form-action 'none'\">\n\
          <meta name=\"viewport\" content=\"width=device-width\">\n\
-         <meta name=\"color-scheme\" content=\"light dark\">\n\
          <title>{name}</title>\n<style>{STYLE}</style></head>\n<body>\n\
          <script type=\"application/json\" id=\"data\">[",
     )

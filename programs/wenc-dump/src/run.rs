@@ -119,27 +119,36 @@ fn dump(
                 complain(streams.err, format_args!("wenc-dump: {name}: {fault}\n"));
             }
         };
-        let done = if options.wit {
-            world(streams.out, file, streams.input, on_fault)
-        } else if let Some(offset) = options.at {
-            let text = Text::new(streams.out, Style::of(options, terminal));
-            at(text, offset, file, streams.input, on_fault)
-        } else {
-            let mut text = Text::new(streams.out, Style::of(options, terminal));
-            let format: &mut dyn Report = if options.json {
-                &mut Json::new(streams.out, options.hex, options.compact)
-            } else {
-                &mut text
-            };
-            let mut selected = Selected::new(format, &options.sections, !options.summary);
-            report(&mut selected, (file, options.check), streams.input, on_fault)
-        };
+        let style = Style::of(options, terminal);
+        let done = dump_file((options, style), file, (streams.input, streams.out), on_fault);
         if !kept.0.is_empty() {
             complain(streams.err, format_args!("{}", kept.0));
         }
         done?;
     }
     Ok(())
+}
+
+/// Dumps a file that isn't on a page, and calls `on_fault` with each fault.
+fn dump_file(
+    (options, style): (&Options, Style),
+    file: &OsStr,
+    (input, out): (&mut dyn Read, &mut dyn Write),
+    on_fault: &mut dyn FnMut(&Fault),
+) -> io::Result<()> {
+    if options.wit {
+        return world(out, file, input, on_fault);
+    }
+    if let Some(offset) = options.at {
+        return at(Text::new(out, style), offset, file, input, on_fault);
+    }
+    let format: &mut dyn Report = if options.json {
+        &mut Json::new(out, options.hex, options.compact)
+    } else {
+        &mut Text::new(out, style)
+    };
+    let mut selected = Selected::new(format, &options.sections, !options.summary);
+    report(&mut selected, (file, options.check), input, on_fault)
 }
 
 impl Style {

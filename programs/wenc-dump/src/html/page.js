@@ -12,21 +12,22 @@ const range = (from, to) => Array.from({ length: to - from }, (_, i) => from + i
 // controls, marks of direction and what else isn't seen, as in Rust
 const UNSEEN = /[\p{Cc}\p{Cf}\p{Zl}\p{Zp}\p{Co}\p{Cn}]/gu;
 const visible = (text) => text.replace(UNSEEN, (c) => `\\u{${hex(c.codePointAt(0))}}`);
-const quoted = (text) => text === undefined ? '' : `“${visible(text)}”`;
+const quoted = (text) => text == null ? '' : `“${visible(text)}”`;
 const joined = (...texts) => texts.filter(Boolean).join(' ');
 /** Creates an element with a class or properties, and the children that aren't empty. */
 function make(tag, props, ...kids) {
   const element = document.createElement(tag);
-  if (typeof props === 'string') props = { className: props };
+  if (typeof props === 'string') props = { class: props };
   for (const [key, value] of Object.entries(props)) {
-    if (/^(aria-|role$)/.test(key)) element.setAttribute(key, value);
+    if (/^(aria-|role$|class$)/.test(key)) element.setAttribute(key, value);
     else element[key] = value;
   }
   element.append(...kids.flat().filter(Boolean));
   return element;
 }
-const [span, div, button, li, p] = ['span', 'div', 'button', 'li', 'p'].map((tag) =>
-  (props, ...kids) => make(tag, props, ...kids));
+const [span, div, button, h3, ul, li, p, b, i, dt, dd] = 'span div button h3 ul li p b i dt dd'
+  .split(' ').map((tag) => (props, ...kids) => make(tag, props, ...kids));
+const on = (target, event, act) => target.addEventListener(event, act);
 /** Returns the last number below `length` for which something that holds first does, or -1. */
 function last(length, holds) {
   let [low, high] = [0, length];
@@ -75,35 +76,32 @@ class File {
     }
   }
   readRows(data) {
-    let start = 0;
-    this.rows = data.rows.map(([up, by, length, kind, ...rest], n) => {
-      start += by;
-      const k = KINDS[kind], row = { file: this, n, s: start, e: start + length, k, kids: [] };
-      if (up) row.up = n - up;
+    let s = 0;
+    this.rows = [];
+    for (const [above, by, length, kind, ...rest] of data.rows) {
+      s += by;
+      const n = this.rows.length, k = KINDS[kind], up = above ? this.rows[n - above] : null;
+      const row = { file: this, n, s, e: s + length, k, up, kids: [], odd: up?.kids.length % 2 };
+      row.depth = up ? up.depth + 1 : 0;
+      row.position = up?.kids.push(row) ?? 1;
+      row.kind = up?.kind ?? k;
       if (kind < 2 || kind === 3) {
         const [space = -1, from, many, name, ...more] = rest;
         if (space >= 0) row.x = [data.words[space], from < 0 ? null : from, many];
         row.debug = name || (kind < 2 && more[0]) || undefined;
         if (kind === 3) [row.shape, row.values, row.same, row.last, row.type, row.origin] = more;
       } else if (kind === 2) {
-        const [word, id, c, core, name, front] = rest;
-        Object.assign(row, { h: data.words[word], id, core, front, debug: name || undefined });
+        const [word, id, c, core, name, front] = rest, h = data.words[word];
+        Object.assign(row, { h, id, core, front, debug: name || undefined });
         if (c >= 0) row.c = c;
+        row.kind = h.replace(/ \d+$/, '').replaceAll(' ', '-');
       } else [row.h, row.debug] = kind === 4 ? ['custom', rest[0]] : rest;
-      return row;
-    });
-    for (const row of this.rows) {
-      const parent = this.rows[row.up];
-      row.depth = parent ? parent.depth + 1 : 0;
-      row.odd = parent && parent.kids.length % 2;
-      row.position = parent ? parent.kids.push(row) : 1;
-      const word = row.k === 'section' && row.h.replace(/ \d+$/, '').replaceAll(' ', '-');
-      row.kind = word || (parent?.kind ?? row.k);
+      this.rows.push(row);
     }
   }
   lineOf(place) {
     const [first, from, , chunk] = lastOf(this.lines, ([, from]) => from <= place);
-    return chunk === undefined ? first : first + Math.floor((place - from) / 16);
+    return chunk == null ? first : first + Math.floor((place - from) / 16);
   }
   slice(start, end) {
     const [from, bytes] = lastOf(this.chunks, ([from]) => from <= start);
@@ -114,7 +112,7 @@ class File {
   /** Returns the innermost row with this byte. */
   rowOf(place) {
     let row = lastOf(this.parts, ({ s }) => s <= place);
-    while (row && place >= row.e) row = parent(row);
+    while (row && place >= row.e) row = row.up;
     return row;
   }
 }
@@ -124,33 +122,32 @@ class File {
 const decoder = new TextDecoder();
 /** Returns the value of an item, or nothing. */
 function nodeOf(row) {
-  if (!row || row.shape === undefined || row.node) return row?.node;
+  if (!row || row.shape == null || row.node) return row?.node;
   let next = row.s;
   const { shapes, expected } = row.file;
-  const taker = (list, i = 0) => () => list[i++];
-  const build = (shape, take, up, position) => {
+  const build = (shape, values, up, position) => {
     const [kind, key, word, ...parts] = shape;
     const node = { kind, key, word, up, position, s: next, own: [], kids: [] };
-    if ('intbl'.includes(kind)) node.value = take();
-    if (kind === 'i') node.link = take();
+    if ('intbl'.includes(kind)) node.value = values.pop();
+    if (kind === 'i') node.link = values.pop();
     for (const part of parts) {
       if (typeof part === 'number') node.own.push([next, next += part, []]);
       else if (typeof part === 'string') {
         node.own.at(-1)[2] = part.split(',').map((number) => number && expected[number]);
-      } else node.kids.push(build(part, take, node));
+      } else node.kids.push(build(part, values, node));
     }
     if (kind === 't' || kind === 'b') {
       node.own.push([next, next += node.value, []]);
       if (kind === 't') node.text = decoder.decode(row.file.slice(next - node.value, next));
     }
-    for (let i = 0; kind === 'l' && i < node.value; i++) {
-      const own = [take()].flat();
-      node.kids.push(build(shapes[own[0]], taker(own, 1), node, i));
-    }
+    if (kind === 'l') range(0, node.value).forEach((i) => {
+      const own = [values.pop()].flat().reverse();
+      node.kids.push(build(shapes[own.pop()], own, node, i));
+    });
     node.e = next;
     return node;
   };
-  const whole = build(shapes[row.shape], taker(row.values), null);
+  const whole = build(shapes[row.shape], [...row.values].reverse(), null);
   // its section says the kind of an item
   row.node = whole.kind === 'v' ? Object.assign(whole.kids[0], { up: null }) : whole;
   return row.node;
@@ -196,11 +193,10 @@ function label(row, isShort) {
     if (!many) return `no ${space}`;
     return `${space} ${first}${many > 1 ? ` to ${first + many - 1}` : ''}`;
   }
-  if (row.up === undefined) return row.k === 'module' ? 'core module' : row.k;
+  if (!row.up) return row.k === 'module' ? 'core module' : row.k;
   return row.k === 'item' ? kindOf(row) : row.k;
 }
-const parent = (row) => row.file.rows[row.up];
-const kindOf = (row) => !row ? '' : row.k === 'section' ? row.h : kindOf(parent(row));
+const kindOf = (row) => !row ? '' : row.k === 'section' ? row.h : kindOf(row.up);
 /** Returns the name of an import or an export. */
 function ownName(row) {
   if (row.kind !== 'import' && row.kind !== 'export') return '';
@@ -282,7 +278,7 @@ function compare(a, b) {
   if (!isSame) [a, b].forEach((node, i) =>
     bytesOf(node).forEach((place) => files[i].differs.add(place)));
   const most = Math.max(a?.kids.length ?? 0, b?.kids.length ?? 0);
-  for (let i = 0; i < most; i++) compare(a?.kids[i], b?.kids[i]);
+  range(0, most).forEach((i) => compare(a?.kids[i], b?.kids[i]));
 }
 const SAYS = { '+': 'only in the second file', '−': 'only in the first file', '≠': 'differs' };
 function stateOf(row) {
@@ -304,7 +300,7 @@ const findings = files.flatMap((file) => file.faults.map(([place, cause, what, e
 }));
 for (const row of isTwo ? files.flatMap(({ rows }) => rows) : []) {
   const { file, differs, other, kids, s: place } = row, state = stateOf(row);
-  const isOwn = differs ? file.number && !kids.some(stateOf) : !other && parent(row)?.other;
+  const isOwn = differs ? file.number && !kids.some(stateOf) : !other && row.up?.other;
   const what = `${label(row)} ${nameOf(row)} ${SAYS[state]}`;
   if (state && isOwn) findings.push({ file, row, place, what });
 }
@@ -316,18 +312,16 @@ const find = make('input', aria('Find a name, an index or a byte offset',
   { type: 'search', placeholder: 'Find, or 0x52' }));
 const space = make('select', aria('Index space'));
 function box(name, role, label) {
-  const inner = div({ className: 'lines', role: 'presentation' });
-  const tall = div({ className: 'tall', role: 'presentation' }, inner);
-  const props = aria(label, { className: `scroll ${name}`, tabIndex: 0, role, tall, inner });
-  return div(props, tall);
+  const inner = div('lines'), tall = div('tall', inner);
+  return div(aria(label, { class: `scroll ${name}`, tabIndex: 0, role, tall, inner }), tall);
 }
 const tree = box('tree', 'tree', 'Sections and items');
 const wit = box('wit', 'listbox', 'The world as WIT');
 const bytes = box('hex', 'group', 'Bytes; the arrow keys move');
 const status = div('status');
-const item = make('section', aria('Item', { className: 'item', tabIndex: -1 }));
-const banner = div({ className: 'banner', role: 'status' });
-const bar = div(aria('Sections by size', { className: 'bar', role: 'group' }));
+const item = make('section', aria('Item', { class: 'item', tabIndex: -1 }));
+const banner = div({ class: 'banner', role: 'status' });
+const bar = div(aria('Sections by size', { class: 'bar', role: 'group' }));
 const title = make('h1', 'name'), summary = p('');
 const KEYS = { '/': 'find', '[': 'back', ']': 'forward', n: 'next fault or difference',
   p: 'previous one', x: 'the other file', w: 'the world as WIT, or the tree',
@@ -335,7 +329,7 @@ const KEYS = { '/': 'find', '[': 'back', ']': 'forward', n: 'next fault or diffe
   '?': 'this help' };
 const help = make('dialog', aria('Keys'), make('h2', '', 'Keys'),
   make('dl', '', Object.entries(KEYS).flatMap(([key, what]) =>
-    [make('dt', '', make('kbd', '', key)), make('dd', '', what)])),
+    [dt('', make('kbd', '', key)), dd('', what)])),
   p('', 'A byte’s place in the page’s address, such as #0x52, can be shared. ',
     'Bytes have the colour of their section, lighter and darker by item.'),
   make('form', { method: 'dialog' }, button('', 'Close')));
@@ -358,7 +352,7 @@ function virtual(box, height, line) {
       box.scrollTop = Math.max(0, top - clientHeight / 3);
     }
   };
-  box.addEventListener('scroll', () => requestAnimationFrame(() => box.draw()));
+  on(box, 'scroll', () => requestAnimationFrame(() => box.draw()));
   new ResizeObserver(() => box.draw()).observe(box);
 }
 const isFiltered = () => find.value.trim() !== '' || space.value !== '';
@@ -371,7 +365,7 @@ function list() {
   };
   for (const row of rows) {
     if (!isFiltered()) {
-      if (row.up === undefined) add(row);
+      if (!row.up) add(row);
       continue;
     }
     const [name, from, many] = row.x ?? [];
@@ -379,7 +373,7 @@ function list() {
     row.text ??= `${label(row)} ${brief(row, Infinity)}`.toLowerCase();
     const isFound = number === null ? row.text.includes(text)
       : from !== null && from <= number && number < from + many;
-    for (let up = isFound && row; up && !kept.has(up); up = parent(up)) kept.add(up);
+    for (let up = isFound && row; up && !kept.has(up); up = up.up) kept.add(up);
   }
   listed = [...kept].sort((a, b) => a.n - b.n);
   tree.draw(listed.length);
@@ -387,23 +381,23 @@ function list() {
 virtual(tree, ROW, (place) => {
   const row = listed[place], { k, c, n, kids, depth } = row, state = stateOf(row);
   const isOpen = open.has(row) || isFiltered(), isOn = row === chosen, hasKids = kids.length > 0;
-  const many = k === 'section' && c !== undefined && c !== 1 ? `× ${c.toLocaleString('en')}` : '';
+  const many = k === 'section' && c != null && c !== 1 ? `× ${c.toLocaleString('en')}` : '';
   const isBold = k === 'section' || !depth, isBad = k === 'unread';
   const line = div({
     id: `row${n}`, role: 'treeitem', 'aria-level': depth + 1, 'aria-posinset': row.position,
-    'aria-setsize': parent(row)?.kids.length ?? 1, 'aria-selected': isOn,
-    className: joined('line', row.kind, isOn && 'chosen', isBold && 'is-section'),
+    'aria-setsize': row.up?.kids.length ?? 1, 'aria-selected': isOn,
+    class: joined('line', row.kind, isOn && 'chosen', isBold && 'is-section'),
     style: `padding-left: ${6 + 13 * Math.min(depth, 14)}px`,
     onclick: ({ target }) => {
       if (target.className === 'twist') return toggle(row);
       choose(row);
       if (hasKids && !isOpen) toggle(row, true);
     },
-  }, span({ className: 'twist', 'aria-hidden': true }, hasKids && (isOpen ? '▼' : '▶')),
-  span({ className: 'swatch', 'aria-hidden': true }),
+  }, span({ class: 'twist', 'aria-hidden': true }, hasKids && (isOpen ? '▼' : '▶')),
+  span({ class: 'swatch', 'aria-hidden': true }),
   span(isBad ? 'label bad-text' : 'label', isBad && '! ', label(row, true)),
   span('brief name', joined(many, brief(row))),
-  state && span(aria(SAYS[state], { className: 'state', title: SAYS[state] }), state),
+  state && span(aria(SAYS[state], { class: 'state', title: SAYS[state] }), state),
   span('at', at(row.s)));
   if (hasKids) line.setAttribute('aria-expanded', isOpen);
   return line;
@@ -415,7 +409,7 @@ function toggle(row, wanted = !open.has(row)) {
 let [leaf, kept] = [new Set(), new Set()];
 virtual(bytes, LINE, (number) => {
   const [first, from, end, chunk] = lastOf(file.lines, ([first]) => first <= number);
-  if (chunk === undefined) {
+  if (chunk == null) {
     const left = `${count(end - from, 'byte')} left out, ${at(from)} to ${at(end - 1)}`;
     return div('line dots', `        ⋮  ${left}`);
   }
@@ -424,8 +418,8 @@ virtual(bytes, LINE, (number) => {
   for (const place of range(start, start + 16)) {
     const gap = place === start + 8 && 'half', front = place === start && 'first';
     if (place >= end || place < file.chunks[chunk][0]) {
-      digits.push(make('b', joined(gap), '  '));
-      letters.push(make('i', joined(front), ' '));
+      digits.push(b(joined(gap), '  '));
+      letters.push(i(joined(front), ' '));
       continue;
     }
     const row = file.rowOf(place), byte = file.byte(place), isBad = file.bad.has(place);
@@ -440,8 +434,8 @@ virtual(bytes, LINE, (number) => {
     const kind = joined(row?.kind, shade, isChosen && 'chosen', differs && 'differs',
       isBad ? 'bad' : leaf.has(place) && 'leaf', place === caret && 'caret');
     const letter = byte > 32 && byte < 127 ? String.fromCharCode(byte) : '·';
-    digits.push(make('b', { className: joined(kind, gap), place }, hex(byte, 2)));
-    letters.push(make('i', { className: joined(kind, front), place }, letter));
+    digits.push(b({ class: joined(kind, gap), place }, hex(byte, 2)));
+    letters.push(i({ class: joined(kind, front), place }, letter));
   }
   return div('line', off, digits, letters, span('note', notes.slice(-2).join(', ')));
 });
@@ -451,8 +445,8 @@ const isChosen = (place) => place > 0 && chosen?.k === 'item' && place >= chosen
   && place < chosen.e;
 virtual(wit, LINE, (number) => {
   const [text, place] = file.wit[number], isOn = isChosen(place);
-  const className = joined('line', isOn && 'chosen'), onclick = () => place && go(place);
-  return div({ className, role: 'option', 'aria-selected': isOn, onclick }, visible(text));
+  const look = joined('line', isOn && 'chosen'), onclick = () => place && go(place);
+  return div({ class: look, role: 'option', 'aria-selected': isOn, onclick }, visible(text));
 });
 function showWit(isOn, line = file.wit.findIndex(([, place]) => isChosen(place))) {
   tree.hidden = find.hidden = space.hidden = isOn;
@@ -466,7 +460,7 @@ function showWit(isOn, line = file.wit.findIndex(([, place]) => isChosen(place))
 /** Says what a byte is. */
 function tell(place, live = 'polite') {
   status.setAttribute('aria-live', live);
-  const row = file.rowOf(place), byte = file.byte(place), isKnown = byte !== undefined;
+  const row = file.rowOf(place), byte = file.byte(place), isKnown = byte != null;
   const where = row ? (row.depth ? kindOf(row) + ' › ' : '') + label(row) : '';
   const [what, more] = row && isKnown ? meaningOf(row, place) : [];
   const can = / /.test(more) ? `Here can be ${more}.` : `Only ${more} can be here.`;
@@ -477,7 +471,7 @@ function tell(place, live = 'polite') {
 function meaningOf(row, place) {
   const i = place - row.s, { k, c, front } = row;
   if (k === 'section') {
-    if (i >= front) return [c === undefined ? 'content' : `count: ${c}`];
+    if (i >= front) return [c == null ? 'content' : `count: ${c}`];
     return [i ? `size: ${row.e - row.s - front}` : `id ${row.id}: ${label(row)}`];
   }
   if (k === 'component' || k === 'module') {
@@ -490,7 +484,7 @@ function meaningOf(row, place) {
   const node = leafOf(row, place), path = [];
   if (!node) return [quoted(row.debug)];
   for (let up = node; up; up = up.up) path.unshift(up.position, up.key);
-  const names = path.filter((key) => key !== undefined && key !== '').join(' › ');
+  const names = path.filter((key) => key != null && key !== '').join(' › ');
   const run = node.own.find(([from, to]) => place >= from && place < to);
   const isLen = run && node.kind === 't' && run !== node.own.at(-1);
   const value = valueOf(node), own = { t: (isLen ? 'length of ' : '') + value,
@@ -503,7 +497,7 @@ const linkTo = (place, text, of = file) => make('a', { href: '#' + at(place), on
   go(place);
 } }, text);
 function linkToRow(row, most = 4) {
-  const { k, c, s, e, file } = row, items = c === undefined ? '' : count(c, 'item') + ',';
+  const { k, c, s, e, file } = row, items = c == null ? '' : count(c, 'item') + ',';
   const size = k === 'section' ? joined(items, count(e - s, 'byte')) : '';
   const more = span('brief name', joined(size, brief(row, most)));
   return span('', linkTo(s, label(row), file), ' ', more);
@@ -532,7 +526,7 @@ function lineOf(node) {
   const isWord = 'nwv'.includes(kind) || (kind === 'r' && !/Tree$/.test(word));
   const look = kind === 't' ? 'string name' : isWord ? 'word' : 'key';
   const onclick = () => { if (node.e > node.s) go(node.s); };
-  const inline = text ? [span({ className: `${look} node`, ...hover, onclick }, text)] : [];
+  const inline = text ? [span({ class: `${look} node`, ...hover, onclick }, text)] : [];
   const parts = kids.map((kid) => [kid, ...lineOf(kid)]);
   const isFew = parts.length < 4
     && parts.every(([, more, deeper]) => !deeper.length && more.length < 5);
@@ -548,18 +542,18 @@ function lineOf(node) {
 }
 const laid = (key, inline, below) => li('',
   div('', key !== '' && [span('key', String(key)), ' '], inline.flatMap((piece) => [piece, ' '])),
-  below.length > 0 && make('ul', '', below));
-const section = (title, rows, shown = linkToRow) => [make('h3', '', title),
-  make('ul', 'links', rows.slice(0, 200).map((row) => li('', shown(row)))),
+  below.length > 0 && ul('', below));
+const section = (title, rows, shown = linkToRow) => [h3('', title),
+  ul('links', rows.slice(0, 200).map((row) => li('', shown(row)))),
   rows.length > 200 && p('empty', `and ${rows.length - 200} more`)];
 function describe() {
   const row = chosen;
   if (!row) return item.replaceChildren(p('empty', 'The bytes can’t be read.'));
   const { s, e, k, c } = row, crumbs = [], facts = make('dl', 'facts'), state = stateOf(row);
-  for (let up = parent(row); up; up = parent(up)) crumbs.unshift(linkTo(up.s, label(up)), ' › ');
-  const fact = (key, ...value) => facts.append(make('dt', '', key), make('dd', '', ...value));
+  for (let { up } = row; up; up = up.up) crumbs.unshift(linkTo(up.s, label(up)), ' › ');
+  const fact = (key, ...value) => facts.append(dt('', key), dd('', ...value));
   fact('bytes', `${at(s)} to ${at(e - 1)}: ${count(e - s, 'byte')}`);
-  if (c !== undefined) fact('items', c.toLocaleString('en'));
+  if (c != null) fact('items', c.toLocaleString('en'));
   for (const [key, place] of Object.entries({
     'same as': row.same, finally: row.last, type: row.type, 'comes from': row.origin,
   })) {
@@ -568,7 +562,7 @@ function describe() {
   }
   const line = file.wit.findIndex(([, place]) => isChosen(place));
   const onclick = () => showWit(true, line), text = visible(file.wit[line]?.[0].trim() ?? '');
-  if (text) fact('WIT', button({ className: 'link', onclick }, text));
+  if (text) fact('WIT', button({ class: 'link', onclick }, text));
   if (row.other) fact('other file', linkToRow(row.other), state ? ' ≠ differs' : ' the same bytes');
   else if (isTwo) fact('other file', `${state} ${SAYS[state]}`);
   const isLeaf = k !== 'component' && k !== 'section';
@@ -579,7 +573,7 @@ function describe() {
   item.replaceChildren(div('crumbs', crumbs),
     make('h2', '', label(row), ' ', span('name', nameOf(row))), facts,
     ...wrong.map(([, , what]) => p('bad-text', `! ${visible(what)}`)),
-    ...node ? [make('h3', '', kindOf(row)), make('ul', 'nodes', laid('', ...lineOf(node)))] : [],
+    ...node ? [h3('', kindOf(row)), ul('nodes', laid('', ...lineOf(node)))] : [],
     div('', kids.length > 0 && section('Contains', kids, (kid) => kid.k === 'entry'
       ? span('name', `${label(kid)} ${brief(kid)}`) : linkToRow(kid)),
     row.x?.[2] > 0 && section(`Used by ${users.length || 'nothing here'}`, users, (user) =>
@@ -591,7 +585,7 @@ const hashOf = (place) => `#${file.number ? 'b:' : ''}${at(place)}`;
 /** Shows a row, with a byte of it. */
 function choose(row, place = row?.s ?? 0, isNew = true) {
   [chosen, caret] = [row, place];
-  for (let up = row && parent(row); up; up = parent(up)) open.add(up);
+  for (let up = row?.up; up; up = up.up) open.add(up);
   list();
   if (row) {
     tree.show(listed.indexOf(row));
@@ -644,7 +638,7 @@ function show(of, isFirst) {
     const part = row.e - row.s, what = `${label(row)}, ${count(part, 'byte')}`;
     const text = part / size * innerWidth > 70 && !isMany && label(row, true);
     const style = `flex-grow: ${part}`, onclick = () => choose(row);
-    return button(aria(what, { className: row.kind, title: what, row, onclick, style }), text);
+    return button(aria(what, { class: row.kind, title: what, row, onclick, style }), text);
   }));
   title.textContent = visible(file.name);
   const facts = [rows[0] ? label(rows[0]) : 'unknown file', count(size, 'byte'), many('section'),
@@ -664,27 +658,26 @@ function swap() {
   show(files[1 - file.number]);
   if (other) choose(other); else go(0);
 }
-const fileTabs = div(aria('Files', { className: 'files', role: 'group' }), isTwo && files.map(
+const fileTabs = div(aria('Files', { class: 'files', role: 'group' }), isTwo && files.map(
   (of, i) => button({ onclick: () => { if (of !== file) swap(); } },
     `${'AB'[i]}: ${visible(of.name)}`)));
 const tabs = ['Items', 'WIT'].map((name, i) =>
   button({ role: 'tab', onclick: () => showWit(i === 1) }, name));
-const tabList = div({ className: 'tabs', role: 'tablist' }, tabs);
+const tabList = div({ class: 'tabs', role: 'tablist' }, tabs);
 wit.hidden = true;
 document.body.append(
   make('header', '', title, summary, fileTabs,
     button({ onclick: () => help.showModal(), title: 'Keys (?)' }, 'Keys')), bar, banner,
-  make('main', '', make('section', aria('Tree', { className: 'tree' }), tabList,
+  make('main', '', make('section', aria('Tree', { class: 'tree' }), tabList,
     div('find', find, space), tree, wit),
-  make('section', aria('Bytes', { className: 'bytes' }), bytes, status), item), help);
+  make('section', aria('Bytes', { class: 'bytes' }), bytes, status), item), help);
 banner.hidden = !findings.length;
 
 // ---- keys and the address
 
-const on = (target, event, act) => target.addEventListener(event, act);
-on(bytes, 'click', ({ target: { place } }) => { if (place !== undefined) go(place); });
+on(bytes, 'click', ({ target: { place } }) => { if (place != null) go(place); });
 on(bytes, 'mouseover', ({ target: { place } }) => {
-  if (place === undefined) return;
+  if (place == null) return;
   tell(place, 'off');
   leaf = new Set(bytesOf(leafOf(file.rowOf(place), place)));
   bytes.querySelectorAll('b, i').forEach(({ classList, place }) =>
@@ -708,13 +701,12 @@ on(tree, 'keydown', (event) => {
   const i = listed.indexOf(chosen), row = listed[i] ?? file.rows[0], end = listed.length - 1;
   if (!row) return;
   const { kids } = row, isOpen = open.has(row);
-  const to = { ArrowDown: i + 1, ArrowUp: i - 1, Home: 0, End: end,
-    PageDown: Math.min(i + 15, end), PageUp: Math.max(i - 15, 0) }[event.key];
-  if (to !== undefined) { if (listed[to]) choose(listed[to]); }
+  const to = { ArrowDown: i + 1, ArrowUp: i - 1, Home: 0, End: end }[event.key];
+  if (to != null) { if (listed[to]) choose(listed[to]); }
   else if (event.key === 'ArrowRight') {
     if (isOpen && kids.length) choose(kids[0]); else toggle(row, true);
   } else if (event.key === 'ArrowLeft') {
-    if (isOpen && kids.length) toggle(row, false); else if (row.depth) choose(parent(row));
+    if (isOpen && kids.length) toggle(row, false); else if (row.up) choose(row.up);
   } else if (event.key === 'Enter') bytes.focus();
   else return;
   event.preventDefault();
@@ -731,7 +723,7 @@ on(bytes, 'keydown', (event) => {
   const page = 16 * Math.floor(bytes.clientHeight / LINE), column = caret % 16;
   const by = { ArrowRight: 1, ArrowLeft: -1, ArrowDown: 16, ArrowUp: -16, PageDown: page,
     PageUp: -page, Home: -column, End: 15 - column }[event.key];
-  if (by === undefined) return;
+  if (by == null) return;
   event.preventDefault();
   go(caret + by, false);
   history.replaceState(history.state, '', hashOf(caret));

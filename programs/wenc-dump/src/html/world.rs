@@ -77,12 +77,20 @@ impl Places {
         if let Some(Open::Type(place)) = open.last() {
             return *place;
         }
-        let (first, rest) = line.split_once(' ').unwrap_or((line, ""));
-        let is_name = |letter: char| letter.is_alphanumeric() || "-%".contains(letter);
-        let word =
-            |text: &str| text.split(|letter| !is_name(letter)).next().unwrap_or("").to_owned();
         let around = open.last();
-        let (name, opened) = match (first, around) {
+        let (name, opened) = self.named(line, around);
+        let is_whole = line.starts_with("interface ");
+        let place = self.of(if is_whole { None } else { around }, &name);
+        if line.ends_with('{') {
+            open.push(opened);
+        }
+        place
+    }
+
+    /// Returns the name that a line is of, or nothing, and what it opens if it does.
+    fn named(&self, line: &str, around: Option<&Open>) -> (String, Open) {
+        let (first, rest) = line.split_once(' ').unwrap_or((line, ""));
+        match (first, around) {
             ("package", _) => {
                 (String::new(), Open::Package(rest.trim_end_matches(" {").to_owned()))
             }
@@ -112,12 +120,12 @@ impl Places {
                 (name, Open::Type(place))
             }
             _ => (word(line), Open::World),
-        };
-        let is_whole = matches!(opened, Open::Interface(_)) && first == "interface";
-        let place = self.of(if is_whole { None } else { around }, &name);
-        if line.ends_with('{') {
-            open.push(opened);
         }
-        place
     }
+}
+
+/// Returns the letters of a name at the start of a text.
+fn word(text: &str) -> String {
+    let is_name = |letter: char| letter.is_alphanumeric() || "-%".contains(letter);
+    text.split(|letter| !is_name(letter)).next().unwrap_or("").to_owned()
 }
