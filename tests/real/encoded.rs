@@ -2,7 +2,7 @@
 
 use crate::{corpus, features, random};
 use std::ops::Range;
-use wenc::tree::Node;
+use wenc::tree::{Encoded, Node};
 use wenc::view::ItemView;
 use wenc::{CoreSections, Item, Step, Walk};
 
@@ -92,4 +92,36 @@ fn values_have_their_bytes() {
     assert_eq!(ranges(&items[1]), [24..26, 26..27, 27..28, 28..29]);
     // a resource, its representation, and that it has no destructor
     assert_eq!(ranges(&items[2]), [32..33, 33..34, 34..35]);
+}
+
+/// The values that begin, with the names of their fields and their byte offsets, and how many end.
+fn begun(each: impl FnOnce(&mut dyn FnMut(Encoded<'_>)) -> bool) -> (Vec<(String, usize)>, usize) {
+    let (mut begun, mut ended) = (Vec::new(), 0);
+    assert!(each(&mut |step| match step {
+        Encoded::Begin { field, offset, .. } => begun.push((field.to_string(), offset)),
+        Encoded::End => ended += 1,
+        _ => {}
+    }));
+    (begun, ended)
+}
+
+/// The fields of an import and of a core module's export are told with their names.
+#[test]
+fn fields_have_names() {
+    let component = b"\0asm\x0d\0\x01\0\x07\x05\x01\x40\0\x01\0\x0a\x06\x01\0\x01f\x01\0";
+    let items = Walk::new(component, 0).expect("a component").items();
+    let item = items.map(|item| item.expect("it is read")).last().expect("an import");
+    let (fields, ended) = begun(|visit| item.each_encoded_part(component, visit));
+    assert_eq!(ended, fields.len());
+    assert!(["name", "ty"].iter().all(|name| fields.iter().any(|(field, _)| field == name)));
+    assert!(fields.ends_with(&[("name".into(), 19), ("ty".into(), 21), ("".into(), 22)]));
+
+    let module = b"\0asm\x01\0\0\0\x07\x05\x01\x01f\0\x05";
+    let sections = CoreSections::new(module).expect("a core module");
+    let section = sections.map(|section| section.expect("it is read")).next().expect("a section");
+    let item = section.items().next().expect("an item").expect("it is read");
+    let (fields, ended) = begun(|visit| item.each_encoded_part(module, visit));
+    assert_eq!(ended, fields.len());
+    let names = [("", 11), ("name", 11), ("kind", 13), ("index", 14)];
+    assert_eq!(fields, names.map(|(name, offset)| (name.to_string(), offset)));
 }

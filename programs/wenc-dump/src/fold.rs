@@ -87,6 +87,9 @@ impl Text<'_> {
             }
             _ => {}
         }
+        if self.style.columns == usize::MAX {
+            return self.flat(node, names);
+        }
         let columns = self.style.columns.saturating_sub(self.columns + after);
         match Members::of(node) {
             Some(members) if !fits(node, encoded_len, names, columns) => {

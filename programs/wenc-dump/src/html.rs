@@ -3,7 +3,7 @@
 mod values;
 mod world;
 
-use super::buffer::Buffer;
+use super::buffer::{Buffer, Bytes};
 use super::check::OutOfRange;
 use super::fault::Fault;
 use super::json::Quoted;
@@ -19,13 +19,13 @@ use wenc::scope::{Definition, Instances};
 use wenc::tree::{Space, UsedIndex};
 use world::Places;
 
-const STYLE: &str = include_str!("html/page.css");
-const SCRIPT: &str = include_str!("html/page.js");
+const STYLE: Embedded = Embedded(include_str!("html/page.css"));
+const SCRIPT: Embedded = Embedded(include_str!("html/page.js"));
 
 /// The SHA-256 digests of the style and the script, in base64.
 const HASHES: [&str; 2] = [
-    "E/DF2QIhfd8DIrVzkY8IoPC9LQcMrtcYcGm12i3Wmbs=",
-    "MEqdhenL4jVZruKXzU6zvPFuZQC5KDTBafoapo24DwQ=",
+    "Wa0MsWY92lVif6A/DImSE9r17yvcfYY/2ZRX6Ia5/ik=",
+    "uTY/x1dAy2JsYLqdY2O0xs5qQxa0CtoPqquBTXERZeA=",
 ];
 
 /// The number of bytes of a part without items above which only its ends are on the page, and the
@@ -46,7 +46,20 @@ const SHOWN: usize = 0x100_0000;
 const FAULTS: usize = 1_000;
 
 /// The number of bytes of plain text for readers without scripts.
-const TEXT: usize = 0x8_0000;
+pub const TEXT: usize = 0x8_0000;
+
+/// A style or a script without the indentation and the comments of its source.
+struct Embedded(&'static str);
+
+impl Display for Embedded {
+    fn fmt(&self, f: &mut fmt::Formatter<'_>) -> fmt::Result {
+        let lines = self.0.lines().map(str::trim_start);
+        lines.filter(|line| !line.starts_with('/')).try_for_each(|line| {
+            f.write_str(line)?;
+            f.write_str("\n")
+        })
+    }
+}
 
 /// Text within HTML.
 pub struct Escaped<'a>(pub &'a str);
@@ -54,14 +67,13 @@ pub struct Escaped<'a>(pub &'a str);
 impl Display for Escaped<'_> {
     fn fmt(&self, f: &mut fmt::Formatter<'_>) -> fmt::Result {
         let mut rest = self.0;
-        while let Some(at) = rest.find(is_escaped) {
+        while let Some(at) = rest.bytes().position(is_escaped) {
             f.write_str(&rest[..at])?;
             let mut letters = rest[at..].chars();
             match letters.next() {
                 Some('<') => f.write_str("&lt;")?,
                 Some('>') => f.write_str("&gt;")?,
                 Some('&') => f.write_str("&amp;")?,
-                Some('"') => f.write_str("&quot;")?,
                 Some(letter) => write!(f, "{}", letter.escape_debug())?,
                 None => {}
             }
@@ -71,9 +83,9 @@ impl Display for Escaped<'_> {
     }
 }
 
-/// Returns whether a character isn't itself in HTML, or may not be seen.
-fn is_escaped(letter: char) -> bool {
-    matches!(letter, '<' | '>' | '&' | '"') || !matches!(letter, ' '..='~' | '\n')
+/// Returns whether what has this byte isn't itself in HTML, or may not be seen.
+fn is_escaped(byte: u8) -> bool {
+    !matches!(byte, b'\n' | b' '..=b'%' | b'\''..=b';' | b'=' | b'?'..=b'~')
 }
 
 /// A string of JSON, which doesn't end the script that it is in.
@@ -89,46 +101,25 @@ struct Script<'f, 'a>(&'f mut fmt::Formatter<'a>);
 
 impl fmt::Write for Script<'_, '_> {
     fn write_str(&mut self, text: &str) -> fmt::Result {
-        let mut parts = text.split('<');
-        parts.next().map_or(Ok(()), |part| self.0.write_str(part))?;
-        parts.try_for_each(|part| write!(self.0, "\\u003c{part}"))
-    }
-}
-
-/// Bytes in base64.
-struct Base64<'a>(&'a [u8]);
-
-impl Display for Base64<'_> {
-    fn fmt(&self, f: &mut fmt::Formatter<'_>) -> fmt::Result {
-        const LETTERS: &[u8; 64] =
-            b"ABCDEFGHIJKLMNOPQRSTUVWXYZabcdefghijklmnopqrstuvwxyz0123456789+/";
-        for three in self.0.chunks(3) {
-            let byte = |at: usize| three.get(at).map_or(0, |byte| usize::from(*byte));
-            let number = byte(0) << 16 | byte(1) << 8 | byte(2);
-            for at in 0..4 {
-                let letter = LETTERS[number >> (18 - 6 * at) & 63] as char;
-                f.write_char(if at > three.len() { '=' } else { letter })?;
-            }
+        let mut rest = text;
+        while let Some(at) = rest.bytes().position(|byte| byte == b'<') {
+            self.0.write_str(&rest[..at])?;
+            self.0.write_str("\\u003c")?;
+            rest = &rest[at + 1..];
         }
-        Ok(())
+        self.0.write_str(rest)
     }
 }
 
-/// The first bytes of a text; more of them are an error.
-#[derive(Default)]
-pub struct Front(pub Vec<u8>);
-
-impl Write for Front {
-    fn write(&mut self, bytes: &[u8]) -> io::Result<usize> {
-        let len = bytes.len().min(TEXT - self.0.len());
-        self.0.try_reserve(len)?;
-        self.0.extend(&bytes[..len]);
-        Ok(len)
-    }
-
-    fn flush(&mut self) -> io::Result<()> {
-        Ok(())
-    }
+/// Writes bytes in base64.
+fn base64(out: &mut dyn Write, bytes: &[u8]) -> io::Result<()> {
+    const LETTERS: &[u8; 64] = b"ABCDEFGHIJKLMNOPQRSTUVWXYZabcdefghijklmnopqrstuvwxyz0123456789+/";
+    bytes.chunks(3).try_for_each(|three| {
+        let byte = |at: usize| three.get(at).map_or(0, |byte| usize::from(*byte));
+        let number = byte(0) << 16 | byte(1) << 8 | byte(2);
+        let letter = |at: usize| LETTERS[number >> (18 - 6 * at) & 63];
+        out.write_all(&[0, 1, 2, 3].map(|at| if at > three.len() { b'=' } else { letter(at) }))
+    })
 }
 
 /// A fault by the byte offsets of the part and of what is wrong in it.
@@ -160,7 +151,7 @@ pub struct Data<'d, 'f, 't> {
     open: Vec<Open>,
     words: Vec<String>,
     /// The numbers of the words for spaces, of which there are few.
-    spaces: Vec<(Space, usize)>,
+    spaces: Vec<(Space, i64)>,
     /// The bytes that aren't on the page.
     cut: Vec<Range<usize>>,
     wrong: Vec<Wrong>,
@@ -185,32 +176,15 @@ fn no_memory(_: fmt::Error) -> io::Error {
 }
 
 impl<'d, 'f, 't> Data<'d, 'f, 't> {
-    /// # Errors
-    ///
-    /// Fails if memory runs out, as what is done with the data does.
     pub fn new(
         bytes: &'f [u8],
         instances: &'d Instances<'d, 'f>,
         text: super::text::Text<'t>,
-    ) -> io::Result<Self> {
-        let (text, is_short) = (Some(text), false);
-        let values = Values::new(bytes, instances).map_err(no_memory)?;
-        let (rows, words, spaces, open) = Default::default();
-        let (counts, last, cut, wrong) = ((0, 0), 0, Vec::new(), Vec::new());
-        Ok(Self {
-            bytes,
-            text,
-            values,
-            rows,
-            counts,
-            last,
-            open,
-            words,
-            spaces,
-            cut,
-            wrong,
-            is_short,
-        })
+    ) -> Self {
+        let (text, values) = (Some(text), Values::new(bytes, instances));
+        let (rows, counts, last, open, words) = Default::default();
+        let (spaces, cut, wrong, is_short) = Default::default();
+        Self { bytes, text, values, rows, counts, last, open, words, spaces, cut, wrong, is_short }
     }
 
     /// Adds a fault.
@@ -253,24 +227,25 @@ impl<'d, 'f, 't> Data<'d, 'f, 't> {
     /// it, the number of bytes, and the kind.
     fn row(&mut self, range: &Range<usize>, kind: Kind) -> fmt::Result {
         let around = self.open.last().map_or(0, |open| self.counts.0 - open.row);
-        let by = range.start as isize - self.last as isize;
+        let by = range.start as i64 - self.last as i64;
         let lead = if self.counts.0 == 0 { "[" } else { ",\n[" };
-        write!(self.rows, "{lead}{around},{by},{},{}", range.len(), kind as u8)?;
+        self.rows.number(lead, around as i64)?;
+        self.numbers([by, range.len() as i64, kind as i64])?;
         self.open.push(Open { row: self.counts.0, id: None });
         self.counts.0 += 1;
         self.last = range.start;
         Ok(())
     }
 
-    fn field(&mut self, value: impl Display) -> fmt::Result {
-        write!(self.rows, ",{value}")
+    fn numbers<const N: usize>(&mut self, numbers: [i64; N]) -> fmt::Result {
+        numbers.into_iter().try_for_each(|number| self.rows.number(",", number))
     }
 
     /// Writes a text, or 0.
-    fn text(&mut self, text: Option<&str>) -> fmt::Result {
+    fn text(&mut self, text: Option<impl Display>) -> fmt::Result {
         match text {
-            Some(text) => self.field(Text(text)),
-            None => self.field(0),
+            Some(text) => write!(self.rows, ",{}", Text(text)),
+            None => self.numbers([0]),
         }
     }
 
@@ -287,19 +262,19 @@ impl<'d, 'f, 't> Data<'d, 'f, 't> {
     }
 
     /// Returns the number of a word for a section or a space, of which there are few.
-    fn word(&mut self, word: &dyn Display) -> Result<usize, fmt::Error> {
+    fn word(&mut self, word: &dyn Display) -> Result<i64, fmt::Error> {
         let word = word.to_string();
         let known = self.words.iter().position(|known| *known == word);
         if known.is_none() {
             self.words.try_reserve(1).map_err(|_| fmt::Error)?;
             self.words.push(word);
         }
-        Ok(known.unwrap_or(self.words.len() - 1))
+        Ok(known.unwrap_or(self.words.len() - 1) as i64)
     }
 
     /// Writes the indices of an item, or what there is instead of them, and a debug name.
-    fn label(&mut self, label: Option<&Label>, at: usize) -> fmt::Result {
-        let Some(label) = label else { return self.rows.write_str(",-1,-1,0,0") };
+    fn label(&mut self, label: Option<&Label>, of: Option<Definition>) -> fmt::Result {
+        let Some(label) = label else { return self.numbers([-1, -1, 0, 0]) };
         let known = self.spaces.iter().find(|(space, _)| *space == label.space);
         let word = match known {
             Some((_, word)) => *word,
@@ -310,32 +285,38 @@ impl<'d, 'f, 't> Data<'d, 'f, 't> {
             }
         };
         // definitions know more indices after an item that can't be read
-        let known = self.values.definitions.get(&at).and_then(|of| of.index()).map(u64::from);
-        let from = label.from.or(known).map_or(-1, i128::from);
-        write!(self.rows, ",{word},{from},{}", label.count)?;
+        let known = || of.and_then(Definition::index).map(u64::from);
+        let from = label.from.or_else(known).map_or(-1, |from| from as i64);
+        self.numbers([word, from, label.count.into()])?;
         self.text(label.name)
     }
 
     /// Writes the values of an item, and the byte offsets of what it is the same as, of the last of
     /// these, of its type, and of the import that it comes from.
-    fn item(&mut self, range: &Range<usize>, item: Source) -> fmt::Result {
+    fn item(
+        &mut self,
+        range: &Range<usize>,
+        item: Source,
+        of: Option<Definition<'d, 'f>>,
+    ) -> fmt::Result {
         // the item itself is open, within its section
         let id = self.open.iter().rev().nth(1).and_then(|open| open.id);
-        let (shape, values) = self.values.item(id, range, item)?;
-        write!(self.rows, ",{shape},[{}]", values.strip_prefix(',').unwrap_or(""))?;
-        let Some(of) = self.values.definitions.get(&range.start) else { return Ok(()) };
+        let (shape, values) = self.values.item(id, range, item, of)?;
+        self.numbers([shape as i64])?;
+        for text in [",[", values.strip_prefix(',').unwrap_or_default(), "]"] {
+            self.rows.write_str(text)?;
+        }
+        let Some(of) = of else { return Ok(()) };
         let place = |found: Option<Definition>| {
-            found.map(Definition::place).filter(|place| *place != range.start).unwrap_or(0)
+            let place = found.map(Definition::place).filter(|place| *place != range.start);
+            place.unwrap_or_default() as i64
         };
         let same = place(of.target().ok().flatten());
-        let last = place(of.resolve().ok());
+        let last = Some(place(of.resolve().ok())).filter(|last| *last != same).unwrap_or(0);
         let ty = place(of.ty().ok().flatten());
         let origin = place(of.origin().ok().flatten());
-        let last = if last == same { 0 } else { last };
-        if [same, last, ty, origin] == [0; 4] {
-            return Ok(());
-        }
-        write!(self.rows, ",{same},{last},{ty},{origin}")
+        let others = [same, last, ty, origin];
+        if others == [0; 4] { Ok(()) } else { self.numbers(others) }
     }
 
     fn section(&mut self, part: &Part) -> fmt::Result {
@@ -346,10 +327,9 @@ impl<'d, 'f, 't> Data<'d, 'f, 't> {
             None => self.word(&format_args!("section {id}"))?,
         };
         let count = count.map_or(-1, i64::from);
-        let is_core = u8::from(core.is_some());
-        write!(self.rows, ",{word},{id},{count},{is_core}")?;
+        self.numbers([word, i64::from(*id), count, i64::from(core.is_some())])?;
         self.text(core.as_ref().and_then(|core| core.name))?;
-        self.field(content - range.start)?;
+        self.numbers([(content - range.start) as i64])?;
         if let Some(open) = self.open.last_mut() {
             open.id = Some(*id).filter(|_| core.is_none());
         }
@@ -363,13 +343,15 @@ impl<'d, 'f, 't> Data<'d, 'f, 't> {
         self.row(&(self.last..self.last), Kind::Entry)?;
         match entry {
             Entry::Name(of, name) => {
-                let of = of.map(|(space, index)| format!("{space} {index}"));
-                self.text(Some(of.as_deref().unwrap_or("component")))?;
+                match of {
+                    Some((space, index)) => self.text(Some(format_args!("{space} {index}")))?,
+                    None => self.text(Some("component"))?,
+                }
                 self.text(Some(name))
             }
             Entry::Tool(tool) => {
                 self.text(Some(tool.field))?;
-                self.field(Text(format_args!("{} {}", tool.name, tool.version)))
+                self.text(Some(format_args!("{} {}", tool.name, tool.version)))
             }
         }
     }
@@ -378,7 +360,7 @@ impl<'d, 'f, 't> Data<'d, 'f, 't> {
         match part {
             Part::File(range, Content::Component(name)) => {
                 self.row(range, Kind::Component)?;
-                self.label(None, 0)?;
+                self.label(None, None)?;
                 self.text(*name)?;
             }
             Part::File(range, _) => self.row(range, Kind::Module)?,
@@ -397,9 +379,10 @@ impl<'d, 'f, 't> Data<'d, 'f, 't> {
                     _ => (Kind::Item, None),
                 };
                 self.row(range, kind)?;
-                self.label(label.as_ref(), range.start)?;
+                let of = self.values.definition(range.start);
+                self.label(label.as_ref(), of)?;
                 match kind {
-                    Kind::Item => self.item(range, *item)?,
+                    Kind::Item => self.item(range, *item, of)?,
                     _ => self.text(name)?,
                 }
             }
@@ -411,7 +394,8 @@ impl<'d, 'f, 't> Data<'d, 'f, 't> {
     /// Writes the object of the file with this name, whose world is this text.
     pub fn print(mut self, out: &mut dyn Write, name: &str, world: &str) -> io::Result<()> {
         let (size, is_short) = (self.bytes.len(), self.is_short);
-        let places = Places::new(self.values.root).ok_or(io::ErrorKind::OutOfMemory)?;
+        let places = Places::new(self.values.instances.component());
+        let places = places.ok_or(io::ErrorKind::OutOfMemory)?;
         write!(out, "{{\"file\":{},\"size\":{size},\"short\":{is_short},", Text(name))?;
         write!(out, "\"words\":[")?;
         for (at, word) in self.words.iter().enumerate() {
@@ -448,8 +432,9 @@ impl<'d, 'f, 't> Data<'d, 'f, 't> {
             let mut hasher = DefaultHasher::new();
             hasher.write(&self.bytes[cut.clone()]);
             let hash = hasher.finish();
-            let bytes = Base64(&self.bytes[from..cut.start]);
-            write!(out, "{lead}[{from},\"{bytes}\",\"{hash:x}\"]")?;
+            write!(out, "{lead}[{from},\"")?;
+            base64(out, &self.bytes[from..cut.start])?;
+            write!(out, "\",\"{hash:x}\"]")?;
             (left, lead) = (left - (cut.start - from), ",");
             from = cut.end;
             if from == size && cut.start < size {
@@ -478,10 +463,9 @@ pub fn begin(out: &mut dyn Write, name: &str) -> io::Result<()> {
 }
 
 /// Ends a page, with a text of what is in the files.
-pub fn end(out: &mut dyn Write, name: &str, Front(text): &Front) -> io::Result<()> {
-    let more = if text.len() < TEXT { "" } else { "\n(and more)\n" };
-    let (name, text) = (Escaped(name), String::from_utf8_lossy(text));
-    let text = Escaped(&text);
+pub fn end(out: &mut dyn Write, name: &str, text: &Bytes) -> io::Result<()> {
+    let more = if text.all.len() < TEXT { "" } else { "\n(and more)\n" };
+    let (name, text) = (Escaped(name), Escaped(text.text()));
     write!(out, "]</script>\n<noscript><h1>{name}</h1>\n<pre>{text}{more}</pre></noscript>\n")?;
     write!(out, "<script>{SCRIPT}</script>\n</body></html>\n")
 }

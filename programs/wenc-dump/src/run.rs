@@ -2,10 +2,10 @@
 
 use super::arguments::{HELP, Options, Request, USAGE, request};
 use super::at::At;
-use super::buffer::Buffer;
+use super::buffer::{Buffer, Bytes};
 use super::escape::Escaped;
-use super::fault::{Fault, Kind};
-use super::html::{self, Data, Front};
+use super::fault::{Fault, Kind, NO_MEMORY};
+use super::html::{self, Data, TEXT};
 use super::json::Json;
 use super::report::Report;
 use super::select::Selected;
@@ -15,7 +15,7 @@ use super::wit;
 use std::ffi::{OsStr, OsString};
 use std::fmt::{self, Write as _};
 use std::fs;
-use std::io::{self, BufWriter, Read, Write};
+use std::io::{self, Read, Write};
 use std::path::Path;
 use wenc::scope::Definitions;
 use wenc::{CoreSections, Part};
@@ -69,22 +69,21 @@ pub fn run(
         Err(error) if error.kind() != io::ErrorKind::BrokenPipe => {
             let place = if has_file { "" } else { "standard output: " };
             complain(streams.err, format_args!("wenc-dump: {place}{error}\n"));
-            status.max(1)
+            status.max(if error.kind() == io::ErrorKind::OutOfMemory { NO_MEMORY } else { 1 })
         }
         _ => status,
     }
 }
 
-/// Writes to a file instead of standard output, and reports why it can't be written.
+/// Writes to a file instead of standard output, once all is read, as it may be a file that is read.
 fn to_file(
     file: &OsStr,
     streams: &mut Streams,
     write: impl FnOnce(&mut Streams) -> io::Result<()>,
 ) -> io::Result<()> {
-    let done = fs::File::create(file).and_then(|created| {
-        let (input, err) = (&mut *streams.input, &mut *streams.err);
-        write(&mut Streams { input, out: &mut BufWriter::new(created), err })
-    });
+    let (mut out, input, err) = (Bytes::new(usize::MAX), &mut *streams.input, &mut *streams.err);
+    let done = write(&mut Streams { input, out: &mut out, err });
+    let done = done.and_then(|()| fs::write(file, &out.all));
     done.map_err(|error| io::Error::new(error.kind(), format!("{}: {error}", Escaped(file))))
 }
 
@@ -179,7 +178,7 @@ fn page(options: &Options, streams: &mut Streams, status: &mut u8) -> io::Result
     // a path may tell more than its reader wants to
     let name = |file| Path::new(Path::new(file).file_name().unwrap_or(file)).display().to_string();
     let names: Vec<String> = files.iter().map(|(file, _)| name(file)).collect();
-    let (name, mut text) = (names.join(", "), Front::default());
+    let (name, mut text) = (names.join(", "), Bytes::new(TEXT));
     let style = Style { has_titles: files.len() > 1, columns: usize::MAX, ..Style::default() };
     html::begin(*out, &name)?;
     for (at, ((file, bytes), name)) in files.iter().zip(&names).enumerate() {
@@ -212,7 +211,7 @@ fn data(
     if !is_whole {
         return Err(io::ErrorKind::OutOfMemory.into());
     }
-    let (mut data, mut faults) = (Data::new(bytes, &instances, text)?, Vec::new());
+    let (mut data, mut faults) = (Data::new(bytes, &instances, text), Vec::new());
     data.begin(file)?;
     walk(bytes, true, &mut data, &mut |fault| faults.push(fault))?;
     for fault in &faults {
@@ -220,11 +219,11 @@ fn data(
         data.fault(fault)?;
     }
     // without a world it isn't a component
-    let mut world = Vec::new();
+    let mut world = Bytes::new(usize::MAX);
     if CoreSections::new(bytes).is_err() && bytes.len() >= 8 {
         wit::print(&mut world, &definitions, bytes.len(), &mut |_| {})?;
     }
-    print(data, &String::from_utf8_lossy(&world))
+    print(data, world.text())
 }
 
 /// Returns the bytes of a file.

@@ -7,7 +7,7 @@ use super::fault::Fault;
 use super::report::{Content, Entry, Label, Part, Report, Rest};
 use super::words;
 use std::ffi::OsStr;
-use std::fmt::{Debug, Display};
+use std::fmt::{self, Debug, Display};
 use std::io::{self, Write};
 use std::ops::Range;
 use wenc::Producer;
@@ -50,10 +50,15 @@ pub struct Text<'o> {
 /// Writes on the line.
 impl Write for Text<'_> {
     fn write(&mut self, bytes: &[u8]) -> io::Result<usize> {
-        let len = self.out.write(bytes)?;
+        self.write_all(bytes)?;
+        Ok(bytes.len())
+    }
+
+    fn write_all(&mut self, bytes: &[u8]) -> io::Result<()> {
+        self.out.write_all(bytes)?;
         // each character has one byte that isn't a continuation byte
-        self.columns += bytes[..len].iter().filter(|byte| **byte & 0xc0 != 0x80).count();
-        if self.columns > self.most { Err(io::ErrorKind::WriteZero.into()) } else { Ok(len) }
+        self.columns += bytes.iter().filter(|byte| **byte & 0xc0 != 0x80).count();
+        if self.columns > self.most { Err(io::ErrorKind::WriteZero.into()) } else { Ok(()) }
     }
 
     fn flush(&mut self) -> io::Result<()> {
@@ -73,12 +78,12 @@ impl<'o> Text<'o> {
     }
 
     /// Writes a piece of text, in its colour.
-    pub(super) fn piece(&mut self, hue: Hue, text: impl Display) -> io::Result<()> {
+    pub(super) fn piece(&mut self, hue: Hue, text: fmt::Arguments) -> io::Result<()> {
         if !self.style.has_colours {
-            return write!(self, "{text}");
+            return self.write_fmt(text);
         }
         write!(self.out, "\x1b[{}m", hue as u8)?;
-        write!(self, "{text}")?;
+        self.write_fmt(text)?;
         write!(self.out, "\x1b[0m")
     }
 

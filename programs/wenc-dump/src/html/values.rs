@@ -12,9 +12,9 @@ use super::super::buffer::Buffer;
 use super::super::leaf::expected;
 use super::super::report::Source;
 use std::collections::HashMap;
-use std::fmt::{self, Display, Write};
+use std::fmt::{self, Write};
 use std::ops::Range;
-use wenc::scope::{Definition, Instances, Scope as Frame, ScopeFault};
+use wenc::scope::{Definition, Instances, ScopeFault};
 use wenc::tree::{Encoded, Node, Scope, Space};
 
 /// The number of bytes of its own that a value has at most if what may stand there is told.
@@ -22,22 +22,6 @@ const TAG: usize = 4;
 
 /// The number of bytes, for each of the file, that may be read to know what may stand somewhere.
 const PROBES: usize = 16;
-
-/// The definitions of a component, by their byte offsets.
-pub type ByPlace<'d, 'f> = HashMap<usize, Definition<'d, 'f>>;
-
-/// Adds the definitions of a scope, and of the scopes within it.
-fn collect<'d, 'f>(scope: Frame<'d, 'f>, all: &mut ByPlace<'d, 'f>) -> fmt::Result {
-    for definition in scope.definitions() {
-        // the members of an instance's list have the instance's place
-        if !all.contains_key(&definition.place()) {
-            all.try_reserve(1).map_err(|_| fmt::Error)?;
-            all.insert(definition.place(), definition);
-            definition.inner().map_or(Ok(()), |inner| collect(inner, all))?;
-        }
-    }
-    Ok(())
-}
 
 /// Texts, each with a number.
 #[derive(Default)]
@@ -63,8 +47,7 @@ impl Numbered {
 /// What is written of all items.
 pub struct Values<'d, 'f> {
     bytes: &'f [u8],
-    pub root: Frame<'d, 'f>,
-    pub definitions: ByPlace<'d, 'f>,
+    pub instances: &'d Instances<'d, 'f>,
     pub shapes: Numbered,
     pub expected: Numbered,
     /// What may stand in bytes of values, by hashes of what is before them in their shapes.
@@ -88,15 +71,6 @@ struct Unit<'d, 'f> {
 enum Name {
     Word(&'static str),
     Space(Space),
-}
-
-impl Display for Name {
-    fn fmt(&self, f: &mut fmt::Formatter<'_>) -> fmt::Result {
-        match self {
-            Self::Word(word) => f.write_str(word),
-            Self::Space(space) => space.fmt(f),
-        }
-    }
 }
 
 /// A value that is open.
@@ -134,24 +108,26 @@ fn hash_of_word(key: u64, word: &'static str) -> u64 {
 }
 
 impl<'d, 'f> Values<'d, 'f> {
-    pub fn new(bytes: &'f [u8], instances: &'d Instances<'d, 'f>) -> Result<Self, fmt::Error> {
-        let mut definitions = HashMap::new();
-        let root = instances.component();
-        collect(root, &mut definitions)?;
+    pub fn new(bytes: &'f [u8], instances: &'d Instances<'d, 'f>) -> Self {
         let (shapes, expected, probed) = Default::default();
         let budget = bytes.len().saturating_mul(PROBES).saturating_add(0x1000);
-        Ok(Self { bytes, root, definitions, shapes, expected, probed, budget })
+        Self { bytes, instances, shapes, expected, probed, budget }
+    }
+
+    /// Returns the definition that begins at this byte offset.
+    pub fn definition(&self, offset: usize) -> Option<Definition<'d, 'f>> {
+        self.instances.at(offset).filter(|of| of.place() == offset)
     }
 
     /// Returns the number of the shape of an item, and its values. `id` is that of its section, if
-    /// that is one of a component.
+    /// that is one of a component, and `of` its definition, if it has one.
     pub fn item(
         &mut self,
         id: Option<u8>,
         range: &Range<usize>,
         item: Source,
+        of: Option<Definition<'d, 'f>>,
     ) -> Result<(usize, String), fmt::Error> {
-        let of = self.definitions.get(&range.start).copied();
         let bytes = self.bytes;
         let unit = Unit {
             shape: Buffer::default(),
@@ -185,7 +161,7 @@ fn target(
     scope: Scope,
     space: Space,
     index: u32,
-) -> Option<i128> {
+) -> Option<i64> {
     let out = match scope {
         Scope::Component(out) => depth.checked_add(out)?,
         Scope::Type(inner) => depth.checked_sub(inner)?,
@@ -198,8 +174,8 @@ fn target(
         }
     }
     match frame.get(space, index) {
-        Ok(definition) => Some(definition.place() as i128),
-        Err(ScopeFault::OutOfRange { count, .. }) => Some(-1 - i128::from(count)),
+        Ok(definition) => Some(definition.place() as i64),
+        Err(ScopeFault::OutOfRange { count, .. }) => Some(-1 - count as i64),
         Err(_) => None,
     }
 }
@@ -232,7 +208,7 @@ impl<'d, 'f> Writer<'_, 'd, 'f> {
 
     /// Begins an element of a list: a declaration has scopes of its own.
     fn element(&mut self, offset: usize) -> fmt::Result {
-        let declared = self.all.definitions.get(&offset).copied();
+        let declared = self.all.definition(offset);
         let Unit { key, of, depth, .. } = *self.unit()?;
         let declared = declared.filter(|declared| of != Some(*declared));
         let (of, depth) = declared.map_or((of, depth), |declared| (Some(declared), depth + 1));
@@ -256,12 +232,18 @@ impl<'d, 'f> Writer<'_, 'd, 'f> {
         for text in [lead, "[\"", kind, "\",\"", field, "\",\""] {
             unit.shape.write_str(text)?;
         }
-        write!(unit.shape, "{name}\"")?;
         unit.key = [kind, field].into_iter().fold(unit.key, hash_of_word);
         unit.key = match name {
-            Name::Word(word) => hash_of_word(unit.key, word),
-            Name::Space(space) => hash(unit.key, space as u64),
+            Name::Word(word) => {
+                unit.shape.write_str(word)?;
+                hash_of_word(unit.key, word)
+            }
+            Name::Space(space) => {
+                write!(unit.shape, "{space}")?;
+                hash(unit.key, space as u64)
+            }
         };
+        unit.shape.write_str("\"")?;
         self.open.push(Open::Other);
         bytes.map_or(Ok(()), |(start, end)| self.own(start, end))?;
         self.open.pop();
@@ -273,7 +255,7 @@ impl<'d, 'f> Writer<'_, 'd, 'f> {
     fn own(&mut self, start: usize, end: usize) -> fmt::Result {
         let text = if let Some(Open::Text(len)) = self.open.last() { *len } else { 0 };
         let len = end - start - text;
-        write!(self.unit()?.shape, ",{len}")?;
+        self.unit()?.shape.number(",", len as i64)?;
         if matches!(self.open.last(), Some(Open::Other)) && len <= TAG {
             let mut numbers = [None; TAG];
             for (at, number) in numbers.iter_mut().take(len).enumerate() {
@@ -282,8 +264,11 @@ impl<'d, 'f> Writer<'_, 'd, 'f> {
             if numbers != [None; TAG] {
                 let shape = &mut self.unit()?.shape;
                 for (at, number) in numbers.iter().take(len).enumerate() {
-                    shape.write_str(if at == 0 { ",\"" } else { "," })?;
-                    number.map_or(Ok(()), |number| write!(shape, "{number}"))?;
+                    let lead = if at == 0 { ",\"" } else { "," };
+                    match number {
+                        Some(number) => shape.number(lead, *number as i64)?,
+                        None => shape.write_str(lead)?,
+                    }
                 }
                 shape.write_str("\"")?;
             }
@@ -326,7 +311,7 @@ impl<'d, 'f> Writer<'_, 'd, 'f> {
             let number = self.all.shapes.number(shape.0)?;
             let around = &mut self.unit()?.values;
             match &*values.0 {
-                "" => write!(around, ",{number}")?,
+                "" => around.number(",", number as i64)?,
                 values => write!(around, ",[{number}{values}]")?,
             }
         }
@@ -342,7 +327,7 @@ impl Unit<'_, '_> {
         Ok(match node {
             Node::Absent | Node::Present(_) => ("a", word(""), Open::Other),
             Node::Number(number) if number < 1 << 53 => {
-                write!(self.values, ",{number}")?;
+                self.values.number(",", number as i64)?;
                 ("n", word(""), Open::Number)
             }
             Node::Number(number) => {
@@ -352,21 +337,22 @@ impl Unit<'_, '_> {
             Node::Flag(true) => ("w", word("true"), Open::Other),
             Node::Flag(false) => ("w", word("false"), Open::Other),
             Node::Text(text) => {
-                write!(self.values, ",{}", text.len())?;
+                self.values.number(",", text.len() as i64)?;
                 ("t", word(""), Open::Text(text.len()))
             }
             Node::Bytes(bytes) => {
-                write!(self.values, ",{}", bytes.len())?;
+                self.values.number(",", bytes.len() as i64)?;
                 ("b", word(""), Open::Text(bytes.len()))
             }
             Node::Word(name) => ("w", word(name), Open::Other),
             Node::Index { space, scope, index } | Node::OutOfRange { space, scope, index, .. } => {
                 let target = target(self.of, self.depth, scope, space, index).unwrap_or(0);
-                write!(self.values, ",{index},{target}")?;
+                self.values.number(",", index.into())?;
+                self.values.number(",", target)?;
                 ("i", Name::Space(space), Open::Number)
             }
             Node::List(list) => {
-                write!(self.values, ",{}", list.len())?;
+                self.values.number(",", list.len() as i64)?;
                 ("l", word(""), Open::List)
             }
             Node::Variant(name, _) => ("v", word(name), Open::Other),

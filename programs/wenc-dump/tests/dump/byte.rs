@@ -85,6 +85,21 @@ fn output_goes_to_a_file() {
     assert_eq!(output.status.code(), Some(1));
 }
 
+/// It may be a file that is read, also after another one.
+#[test]
+fn output_goes_to_a_file_that_is_read() {
+    let other = file("read too", b"");
+    let other = other.to_str().expect("it is text");
+    for option in ["--hex", "--json", "--html"] {
+        let path = file("read and written", FUNCTION);
+        let expected = start(&[option, other], &path).stdout;
+        let name = path.to_str().expect("it is text");
+        let output = start(&[option, "-o", name, other], &path);
+        assert!(output.status.success() && output.stdout.is_empty() && output.stderr.is_empty());
+        assert!(fs::read(&path).expect("it is there") == expected, "{option}");
+    }
+}
+
 #[test]
 fn options_of_one_letter_are_combined() {
     let component = component(FUNCTION);

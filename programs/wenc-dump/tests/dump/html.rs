@@ -156,5 +156,5 @@ fn digests_are_those_of_the_parts() {
         assert_eq!(stated, digest.trim());
     }
     let len = style.len() + script.len();
-    assert!(len < 0xc000, "the fixed part has {len} bytes");
+    assert!(len < 0xac00, "the fixed part has {len} bytes");
 }

@@ -179,6 +179,18 @@ fn texts_are_escaped() {
     assert_eq!(value.at("fault").at("place"), &Value::Null);
 }
 
+/// A byte of a file's name that isn't UTF-8 is a lone surrogate, which no text has.
+#[cfg(unix)]
+#[test]
+fn names_of_files_that_are_not_text_survive() {
+    use std::ffi::OsStr;
+    use std::os::unix::ffi::OsStrExt;
+    let name = OsStr::from_bytes(b"a\xff\xc3(\xc3\xa9\xe2\x80");
+    let out = String::from_utf8(start(&["--json"], Path::new(name)).stdout).expect("it is text");
+    let start = "{\"version\":1,\"file\":\"a\\udcff\\udcc3(\u{e9}\\udce2\\udc80\",";
+    assert!(out.starts_with(start), "{out}");
+}
+
 /// Control characters, those that change the direction of text, and line breaks.
 #[test]
 fn what_changes_a_terminal_is_escaped() {

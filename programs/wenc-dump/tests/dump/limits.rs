@@ -141,6 +141,17 @@ fn deep_types() {
     expect_its_bytes(&file("limits_deep", &section(7, &[&[1][..], &ty].concat())));
 }
 
+/// A page of many types, and one of many bytes.
+#[test]
+fn pages() {
+    let types = [&padded(40_000)[..], &b"\x70\x73".repeat(40_000)].concat();
+    let refused = refusals(&["--html"], &file("limits_page", &section(7, &types)));
+    assert!(refused >= 10, "{refused}");
+    let custom = section(0, &[&[1, b'x'][..], &[7; 1 << 20]].concat());
+    let refused = refusals(&["--html"], &file("limits_page_of_bytes", &custom));
+    assert!(refused >= 10, "{refused}");
+}
+
 /// The other files are printed, and the status is that of the worst fault.
 #[test]
 fn files_after_the_one_that_memory_ran_out_in() {

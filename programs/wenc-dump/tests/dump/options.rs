@@ -291,6 +291,25 @@ fn names_of_files_are_escaped() {
     assert_eq!(output.status.code(), Some(1));
 }
 
+/// Lines have the width of the terminal, unless the environment has another one.
+#[cfg(target_os = "linux")]
+#[test]
+fn lines_are_as_wide_as_the_terminal() {
+    let path = file("wide", FUNCTION);
+    let widest = |columns: &str| {
+        let command = format!("{columns} '{PROGRAM}' --color=never '{}'", path.display());
+        let mut script = Command::new("script");
+        script.args(["-qec", &format!("stty cols 60; {command}"), "/dev/null"]);
+        let output = script.env_remove("COLUMNS").stdin(Stdio::null()).output().ok()?;
+        let out = String::from_utf8(output.stdout).expect("it is text");
+        out.lines().map(|line| line.trim_end().len()).max()
+    };
+    let [Some(own), Some(stated)] = ["", "COLUMNS=80"].map(widest) else {
+        return println!("left out: the width of a terminal: no script");
+    };
+    assert!(own <= 60 && 60 < stated && stated <= 80, "{own} {stated}");
+}
+
 /// A writer whose reader closes after this many bytes.
 struct Left(usize);
 
