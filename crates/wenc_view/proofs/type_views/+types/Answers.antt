@@ -5,7 +5,7 @@ use Rattle.wenc_read.specs.laws.Tables.{past_rows}
 use Rattle.wenc_types.specs.Prelude.{DefinedType, one_level, read_component_declaration}
 use Rattle.wenc_types.specs.Prelude.{read_component_type, read_defined, read_instance_declaration}
 use Rattle.wenc_types.specs.Prelude.{read_instance_type, read_shallow, read_type, type_rows}
-use Rattle.wenc_view.specs.Prelude.{are_counted, at_start, component_declaration_seen}
+use Rattle.wenc_view.specs.Prelude.{at_start, component_declaration_seen, list_counted}
 use Rattle.wenc_view.specs.Prelude.{instance_declaration_seen, is_done, members_are, stops}
 use Rattle.wenc_view.specs.Prelude.{times_go_on}
 use Rattle.wenc_read.specs.Prelude.{fails_on, flaw_of}
@@ -47,7 +47,8 @@ instance_type-returns-in_err-rest-clause-found t c =
 
 pub instance_type-returns-clause-counted : goal.instance_type-returns-clause-counted
 instance_type-returns-clause-counted t c =
-    are_counted (read_instance_declaration (read_type (c.args.depth_left - 1))) c.in_ok-left.left c.in_ok-left.start.now _ c.in_ok-rest.rest.now c.in_ok-rest.ensures.found
+    list_counted (read_instance_declaration (read_type (c.args.depth_left - 1))) c.in_ok-left.left c.args.bytes.now c.in_ok-left.start.now _ c.in_ok-rest.rest.now
+    c.in_ok-left.ensures.found c.in_ok-rest.ensures.found
 
 pub instance_type-returns-clause-found : goal.instance_type-returns-clause-found
 instance_type-returns-clause-found t c = instance_found c.args.depth_left c.in_ok-left.left c.args.bytes.now c.in_ok-left.start.now c.in_ok-rest.rest.now _
@@ -87,7 +88,8 @@ component_type-returns-in_err-rest-clause-found t c =
 
 pub component_type-returns-clause-counted : goal.component_type-returns-clause-counted
 component_type-returns-clause-counted t c =
-    are_counted (read_component_declaration (read_type (c.args.depth_left - 1))) c.in_ok-left.left c.in_ok-left.start.now _ c.in_ok-rest.rest.now c.in_ok-rest.ensures.found
+    list_counted (read_component_declaration (read_type (c.args.depth_left - 1))) c.in_ok-left.left c.args.bytes.now c.in_ok-left.start.now _ c.in_ok-rest.rest.now
+    c.in_ok-left.ensures.found c.in_ok-rest.ensures.found
 
 pub component_type-returns-clause-found : goal.component_type-returns-clause-found
 component_type-returns-clause-found t c = component_found c.args.depth_left c.in_ok-left.left c.args.bytes.now c.in_ok-left.start.now c.in_ok-rest.rest.now _
