@@ -11,6 +11,9 @@ use Rattle.wenc_view.specs.Prelude.{times_go_on}
 use Rattle.wenc_read.specs.Prelude.{fails_on, flaw_of}
 use Rattle.wenc_view.proofs.Nested.{component_found, component_fails, instance_found}
 use Rattle.wenc_view.proofs.Nested.{instance_fails, shallow_ok}
+use Rattle.wenc_view.specs.CoreTypes.{core_type_lists}
+use Rattle.wenc_view.specs.TypeViews.{instance_declaration_lists, type_lists}
+use Rattle.wenc_view.specs.laws.Lists.{behind_byte, if_behind_byte}
 use Rattle.wenc_view.proofs.type_views.+types.Goals as goal
 
 pub instance_decls-loop-init : goal.instance_decls-loop-init
@@ -115,3 +118,27 @@ type_at-returns-in_err-ty-in_default-clause-found t c =
           _ _ _ c.in_ok-rest.ensures.found (search rules, (search rules, (search rules, (search rules, (search rules, tt))))),
     )
     (fails_on Bad (read_defined c.args.bytes.now) (λ ty. give (DefinedType ty)) c.in_err-ty-in_default.ensures.found)
+
+pub type_at-returns-in-65-default-clause-counted : goal.type_at-returns-in-65-default-clause-counted
+type_at-returns-in-65-default-clause-counted t c = if_behind_byte (λ x. type_lists x.0) (λ x. x.1.now) _ _ _ c.component_type.result c.in_ok-rest.ensures.found c.component_type.ensures.counted
+
+pub type_at-returns-in-66-default-clause-counted : goal.type_at-returns-in-66-default-clause-counted
+type_at-returns-in-66-default-clause-counted t c = if_behind_byte (λ x. type_lists x.0) (λ x. x.1.now) _ _ _ c.instance_type.result c.in_ok-rest.ensures.found c.instance_type.ensures.counted
+
+pub type_at-returns-in_ok-function_type-in-64-default-clause-counted : goal.type_at-returns-in_ok-function_type-in-64-default-clause-counted
+type_at-returns-in_ok-function_type-in-64-default-clause-counted t c = behind_byte _ _ _ (type_lists c.in_ok-function_type-in-64-default.field-0.0) _ c.in_ok-rest.ensures.found c.in_ok-function_type-in-64-default.ensures.counted
+
+pub type_at-returns-in_ok-function_type-in-67-default-clause-counted : goal.type_at-returns-in_ok-function_type-in-67-default-clause-counted
+type_at-returns-in_ok-function_type-in-67-default-clause-counted t c = behind_byte _ _ _ (type_lists c.in_ok-function_type-in-67-default.field-0.0) _ c.in_ok-rest.ensures.found c.in_ok-function_type-in-67-default.ensures.counted
+
+pub type_at-returns-in_ok-resource_type-in-63-default-clause-counted : goal.type_at-returns-in_ok-resource_type-in-63-default-clause-counted
+type_at-returns-in_ok-resource_type-in-63-default-clause-counted t c = behind_byte _ _ _ (type_lists c.in_ok-resource_type-in-63-default.field-0.0) _ c.in_ok-rest.ensures.found c.in_ok-resource_type-in-63-default.ensures.counted
+
+pub instance_decl-returns-in_ok-ty-in-0-default-clause-counted : goal.instance_decl-returns-in_ok-ty-in-0-default-clause-counted
+instance_decl-returns-in_ok-ty-in-0-default-clause-counted t c = behind_byte _ _ _ (core_type_lists c.in_ok-ty-in-0-default.ty) _ c.in_ok-rest.ensures.found c.in_ok-ty-in-0-default.ensures.counted
+
+pub instance_decl-returns-in_ok-ty-in-1-default-clause-counted : goal.instance_decl-returns-in_ok-ty-in-1-default-clause-counted
+instance_decl-returns-in_ok-ty-in-1-default-clause-counted t c = behind_byte _ _ _ (type_lists c.in_ok-ty-in-1-default.ty) _ c.in_ok-rest.ensures.found c.in_ok-ty-in-1-default.ensures.counted
+
+pub instance_decl-returns-in_ok-exported-in-4-default-clause-counted : goal.instance_decl-returns-in_ok-exported-in-4-default-clause-counted
+instance_decl-returns-in_ok-exported-in-4-default-clause-counted t c = behind_byte _ _ _ (instance_declaration_lists c.in_ok-exported-in-4-default.field-0.0) _ c.in_ok-rest.ensures.found c.in_ok-exported-in-4-default.ensures.counted

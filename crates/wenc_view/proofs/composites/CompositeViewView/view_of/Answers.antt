@@ -3,9 +3,8 @@ use Rattle.wenc_base.specs.Prelude.{Array, Func, Struct, read_field_type, read_l
 use Rattle.wenc_read.specs.Prelude.{at_first}
 use Rattle.wenc_view.proofs.Tables.{made_of, made_of_both}
 use Rattle.std.proofs.Common.{[], ◌∷◌}
-use Rattle.wenc_base.specs.Prelude.{list_lawful, list_sound, val_type_lawful, val_type_sound}
 use Rattle.wenc_view.specs.Members.{place_of}
-use Rattle.wenc_view.specs.laws.Lists.{behind, behind_byte, two_counted}
+use Rattle.wenc_view.specs.laws.Lists.{behind_byte, two_counted}
 use Rattle.wenc_view.proofs.composites.CompositeViewView.view_of.Goals as goal
 
 pub returns-in_ok-element-in-94-default-clause-found : goal.returns-in_ok-element-in-94-default-clause-found
