@@ -12,18 +12,24 @@ returns-in_err-items-clause-fault g c =
 
 pub returns-in-Err-clause-fault : goal.returns-in-Err-clause-fault
 returns-in-Err-clause-fault g c =
-    record { xs = map item_view c.loop.items.items; left = c.loop.left; taken = c.loop.invariant; cause = c.in-Err.ensures.fault.cause }
+    rw c.in-Err.ensures.refused (record {
+      xs = map item_view c.loop-item.items.items;
+      left = c.loop-item.left;
+      taken = c.loop-item.invariant;
+      cause = c.in-Err.ensures.fault.cause;
+    })
 
 pub returns-in-Err-clause-stopped : goal.returns-in-Err-clause-stopped
-returns-in-Err-clause-stopped g c = (refl, (map item_view c.loop.items.items, c.loop.invariant), c.in-Err.ensures.fault)
+returns-in-Err-clause-stopped g c =
+    rw c.in-Err.ensures.refused (refl, (map item_view c.loop-item.items.items, c.loop-item.invariant), c.in-Err.ensures.fault)
 
-pub loop-preserved : goal.loop-preserved
-loop-preserved g c =
-    let before = c.loop.items.items in
-    let x = c.in_ok-item.item in
-    let views : map item_view c.push.new.self.items ≡ map item_view before ++ item_view x ∷ [] = rw c.in_ok-push.ensures.items (map_push item_view before x) in
-    rw views (one_more_taken c.args.from c.loop.left c.next_or_refusal.new.self (map item_view before) (item_view x) c.loop.invariant
-    (rw c.in_ok-item.ensures at c.in-Ok-Some.ensures.taken))
+pub loop-item-preserved : goal.loop-item-preserved
+loop-item-preserved g c =
+    let before = c.loop-item.items.items in
+    let x = c.in_ok-item-in-Ok-Some.item in
+    let views : map item_view c.push.new.self.items ≡ map item_view before ++ item_view x ∷ [] = rw c.in_ok-push-in-Ok-Some.ensures.items (map_push item_view before x) in
+    rw views (one_more_taken c.args.from c.loop-item.left c.next_or_refusal.new.self (map item_view before) (item_view x) c.loop-item.invariant
+    (rw (← c.in_ok-item-in-Ok-Some.ensures) at (rw c.in-Ok-Some.field-0-is at c.in-Ok-Some.ensures.taken)))
 
-pub loop-init : goal.loop-init
-loop-init g c = rw c.in_ok-items.ensures.items (none_taken c.args.from)
+pub loop-item-init : goal.loop-item-init
+loop-item-init g c = rw c.in_ok-items.ensures.items (none_taken c.args.from)
