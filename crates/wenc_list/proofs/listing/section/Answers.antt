@@ -1,6 +1,7 @@
 use Rattle.std.proofs.Common.{◌≡◌, ◌++◌, ◌∷◌, [], map, refl}
 use Rattle.std.proofs.lemmas.List.{map_push}
 use Rattle.std.proofs.lemmas.Result.{err_from_is_err_and}
+use Rattle.wenc_list.specs.Cursor.{HasTaken, IsRefusedIn}
 use Rattle.wenc_list.specs.Items.{item_view}
 use Rattle.wenc_list.proofs.Taken.{none_taken, one_more_taken}
 use Rattle.wenc_list.proofs.listing.section.Goals as goal
@@ -12,16 +13,21 @@ returns-in_err-items-clause-fault g c =
 
 pub returns-in-Err-clause-fault : goal.returns-in-Err-clause-fault
 returns-in-Err-clause-fault g c =
-    rw c.in-Err.ensures.refused (record {
+    let left = c.next_or_refusal.new.self in
+    let refused : IsRefusedIn left c.in-Err.refusal = rw (← c.in-Err.ensures.refused) at c.in-Err.ensures.fault in record {
       xs = map item_view c.loop-item.items.items;
-      left = c.loop-item.left;
-      taken = c.loop-item.invariant;
-      cause = c.in-Err.ensures.fault.cause;
-    })
+      left = left;
+      taken = rw (← c.in-Err.ensures.refused) at c.loop-item.invariant;
+      cause = refused.cause;
+    }
 
 pub returns-in-Err-clause-stopped : goal.returns-in-Err-clause-stopped
 returns-in-Err-clause-stopped g c =
-    rw c.in-Err.ensures.refused (refl, (map item_view c.loop-item.items.items, c.loop-item.invariant), c.in-Err.ensures.fault)
+    let left = c.next_or_refusal.new.self in
+    let xs = map item_view c.loop-item.items.items in
+    let refused : IsRefusedIn left c.in-Err.refusal = rw (← c.in-Err.ensures.refused) at c.in-Err.ensures.fault in
+    let taken : HasTaken c.args.from xs left = rw (← c.in-Err.ensures.refused) at c.loop-item.invariant in
+    (refl, (xs, taken), refused)
 
 pub loop-item-preserved : goal.loop-item-preserved
 loop-item-preserved g c =
