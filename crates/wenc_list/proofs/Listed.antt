@@ -5,10 +5,12 @@ use Rattle.wenc_base.specs.Prelude.{Bad, ReadsGroups, Wide, each, more, u32_grou
 use Rattle.wenc_base.specs.Number.{last}
 use Rattle.wenc_builder.specs.Prelude.{Section, members, preamble, section_piece, sections}
 use Rattle.wenc_list.specs.Prelude.{AreFrom, AreWithin, HasDepth, IsFaultBehind, IsFaultHere}
-use Rattle.wenc_list.specs.Prelude.{IsFramed, ListFault, ListedSection, Opens, SectionItems}
-use Rattle.wenc_list.specs.Prelude.{StopsAt, TakesAll, item_section, item_view, read_frame}
-use Rattle.wenc_list.specs.Prelude.{section_view}
+use Rattle.wenc_list.specs.Prelude.{IsFaultOfOpening, IsFramed, IsUnopened, ListFault, ListedSection}
+use Rattle.wenc_list.specs.Prelude.{Opens, SectionItems, StopsAt, TakesAll, fault_of_section}
+use Rattle.wenc_list.specs.Prelude.{item_section, item_view, read_frame, section_view}
 use Rattle.wenc_list.specs.Listing.{BeginsWith}
+use Rattle.wenc_list.specs.declared.cursor.SectionRefusal.{SectionRefusal}
+use Rattle.wenc_list.specs.declared.cursor.SectionRefusal.TheVariants.{Frame, Count}
 use Rattle.wenc_list.specs.declared.fault.ListFault.TheVariants as faults
 use Rattle.wenc_list.proofs.SectionLaws.{frame_finds, section_framed, same_frame, not_both}
 use Rattle.wenc_list.proofs.Taken.{filled_once, taken_read, taken_within}
@@ -24,6 +26,12 @@ no_frame place bytes e = (
   (λ s rest r w. (let f = section_framed s bytes rest r in never_framed bytes f.id f.content rest e f.framed)),
   (λ id content rest f l. never_framed bytes id content rest e f),
 )
+
+-- why no section is opened, in place of the refusal
+pub opening_fault : (ends place : ℕ) (bytes : List ℕ) (refusal : SectionRefusal) → IsUnopened ends bytes refusal
+    → IsFaultOfOpening ends bytes (fault_of_section refusal place)
+opening_fault ends place bytes (Frame refusal) h = h.0
+opening_fault ends place bytes (Count section refusal) h = (section, h.0)
 
 -- ---- sections, one after the other
 

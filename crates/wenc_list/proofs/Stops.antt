@@ -1,9 +1,9 @@
 -- Where a listing stops.
 use Rattle.std.proofs.Common.{◌≡◌, ℕ, List, [], ◌∷◌, ◌++◌, length, refl}
 use Rattle.wenc_base.specs.Prelude.{EndsWith, Wide, each, ends_on}
-use Rattle.wenc_builder.specs.Prelude.{Item, Section, section_piece}
-use Rattle.wenc_list.specs.Prelude.{HasTaken, IsNextOf, IsNextSectionOf, Opens, SectionItems}
-use Rattle.wenc_list.specs.Prelude.{Sections, StopsIn, StopsInside}
+use Rattle.wenc_builder.specs.Prelude.{Section, section_piece}
+use Rattle.wenc_list.specs.Prelude.{IsNextSectionOf, Opens, SectionItems, Sections, StopsIn}
+use Rattle.wenc_list.specs.Prelude.{StopsInside}
 use Rattle.wenc_list.specs.declared.refusal.ListRefusal.{ListRefusal}
 use Rattle.wenc_list.specs.declared.refusal.ListRefusal.TheVariants as refusals
 use Rattle.wenc_list.proofs.SectionLaws.{section_framed}
@@ -18,21 +18,22 @@ pub sections_leave : (ss : List Section) (bytes rest : List ℕ) → (each secti
 sections_leave [] bytes rest r = ([], r)
 sections_leave (s ∷ ss) bytes rest r = ends_on bytes r.0 rest (one_leaves s bytes r.0 r.1) (sections_leave ss r.0 rest r.2)
 
-pub item_stops : (first left : SectionItems) (xs : List Item) (e : ListRefusal) → HasTaken first xs left → IsNextOf first.left left e → StopsIn first e
-item_stops first left xs refusals.Memory t h = tt
-item_stops first left xs refusals.Header t h = absurd h
-item_stops first left xs (refusals.Section place refusal) t h = absurd h
-item_stops first left xs (refusals.Item count items refusal) t h = (h.0, (xs, rw h.1 t), rw h.1 h.2)
-
 pub section_stops : (bytes here rest : List ℕ) (ends : ℕ) (first : SectionItems) (e : ListRefusal) → ends ≡ length bytes → EndsWith bytes here
     → Opens ends here first rest → StopsIn first e → StopsInside bytes e
 section_stops bytes here rest ends first refusals.Memory is_end leaves o h = tt
 section_stops bytes here rest ends first refusals.Header is_end leaves o h = absurd h
 section_stops bytes here rest ends first (refusals.Section place refusal) is_end leaves o h = absurd h
-section_stops bytes here rest ends first (refusals.Item count items refusal) is_end leaves o h = (
-  record { here = here; leaves = leaves; first = first; rest = rest; opens = rw is_end at o; xs = h.1.0; taken = h.1.1; are = h.0 },
-  h.2,
-)
+section_stops bytes here rest ends first (refusals.Item count items refusal) is_end leaves o h = record {
+  here = here;
+  leaves = leaves;
+  first = first;
+  rest = rest;
+  opens = rw is_end at o;
+  xs = h.1.0;
+  taken = h.1.1;
+  are = h.0;
+  refused = h.2;
+}
 
 pub next_stops : (bytes : List ℕ) (left : Sections) (e : ListRefusal) → left.ends ≡ length bytes → EndsWith bytes left.rest.now
     → IsNextSectionOf left e → StopsInside bytes e

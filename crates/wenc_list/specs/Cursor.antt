@@ -1,19 +1,24 @@
 -- A component that is taken section by section, and a section item by item (component model, binary
 -- format, "Component Definitions").
 use Rattle.std.specs.List.{AllByRecursion}
-use Rattle.std.specs.Prelude.{◌≡◌, ◌⊎◌, ℕ, ◌+◌, ◌-◌, ◌<◌, ◌≤◌, List, [], ◌++◌, length}
-use Rattle.std.specs.Prelude.{IsTrue, IsFalse, nat_eq, if◌then◌else◌}
+use Rattle.std.specs.Prelude.{◌≡◌, ◌⊎◌, ℕ, ◌+◌, ◌-◌, ◌<◌, ◌≤◌, List, [], ◌∷◌, ◌++◌, length}
+use Rattle.std.specs.Prelude.{IsTrue, IsFalse, nat_eq, nat_lt, if◌then◌else◌, Result, Ok, Err}
 use Rattle.wenc_base.specs.Forms.{name, AreBytes}
 use Rattle.wenc_base.specs.Number.{u32}
 use Rattle.wenc_base.specs.Piece.{Piece, Form, Wide, EndsWith, only_where, raw, ◌⨾◌, each}
+use Rattle.wenc_base.specs.Readers.{Flaw}
+use Rattle.wenc_base.specs.reading.Numbers.{read_u32}
 use Rattle.wenc_builder.specs.Item.{Item, ModuleItem, ComponentItem, StartItem, CustomItem}
 use Rattle.wenc_builder.specs.Sections.{collects, item_of}
 use Rattle.wenc_read.specs.Gives.{left_of}
+use Rattle.wenc_read.specs.Refusals.{byte_error, expected_at, number_error}
+use Rattle.wenc_read.specs.declared.expected.Expected.TheVariants.{Bytes, End, From}
+use Rattle.wenc_read.specs.declared.refusal.Refusal.{Refusal}
 use Rattle.wenc_read.specs.declared.refusal.NestedRefusal.{NestedRefusal}
 use Rattle.wenc_read.specs.declared.refusal.NestedRefusal.TheVariants.{Flat, TooDeep}
 use Rattle.wenc_view.specs.Depth.{OpensTypes}
 use Rattle.wenc_sections.specs.Start.{start_content}
-use Rattle.wenc_list.specs.Listing.{HasDepth, IsFramed, IsLabelled}
+use Rattle.wenc_list.specs.Listing.{HasDepth, IsFramed, IsLabelled, IsNoFrame}
 use Rattle.wenc_list.specs.declared.cursor.SectionItems.{SectionItems}
 use Rattle.wenc_list.specs.declared.cursor.SectionRefusal.{SectionRefusal}
 use Rattle.wenc_list.specs.declared.cursor.SectionRefusal.TheVariants.{Frame, Count}
@@ -122,20 +127,48 @@ fault_of_list refusals.Header = faults.NotAComponent 0
 fault_of_list (refusals.Section place refusal) = fault_of_section refusal place
 fault_of_list (refusals.Item count left refusal) = fault_of_items left refusal
 
+-- The refusal has its cause in what is left of the section, and its place in the bytes that are.
+-- Where no item is left, that is the first of them.
+pub record IsRefusedIn (s : SectionItems) (refusal : NestedRefusal) : Type 0 where
+  pub cause : IsFaultIn s (fault_of_items s refusal)
+  pub at_end : s.left ≡ 0 → refusal ≡ Flat (expected_at s.rest.now End)
+  pub within : left_of refusal ≤ length s.rest.now
+
 -- A section begins these bytes, the last ones of a component with `ends` bytes, and no count of its
--- items begins its content.
+-- items begins its content; so none is left.
 pub record LacksCount (ends : ℕ) (bytes : List ℕ) (s : SectionItems) : Type 0 where
   pub rest : List ℕ
   pub framed : IsFramed bytes s.id s.rest.now rest
   pub collecting : IsTrue (collects s.id)
   pub never : (n : ℕ) (items : List ℕ) → (u32 n).Reads Wide s.rest.now items → ⊥
+  pub none_left : s.left ≡ 0
   pub is_place : s.place ≡ ends - length bytes
   pub is_end : s.ends ≡ ends - length rest
 
--- a section that the refusal names has no count
-abbrev pub IsCountless : ℕ → List ℕ → SectionRefusal → Type 0
-IsCountless ends bytes (Frame refusal) = Unit {0}
-IsCountless ends bytes (Count section refusal) = LacksCount ends bytes section
+-- why so many bytes aren't there, if there is a number of them
+abbrev pub size_error : Refusal → Result (ℕ × List ℕ) Flaw → Refusal
+size_error error (Ok x) = expected_at x.1 (Bytes x.0)
+size_error error (Err flaw) = error
+
+-- Why no section begins the bytes: there is none, an unknown id, no size, or fewer bytes than that.
+abbrev pub frame_error : List ℕ → Refusal
+frame_error [] = byte_error []
+frame_error (id ∷ bytes) = if nat_lt 11 id then expected_at (id ∷ bytes) (From 0 11)
+    else size_error (number_error 128 32 bytes 4 bytes) (read_u32 bytes)
+
+-- why no section is next: none begins here, or the one that is named lacks its count
+abbrev pub IsUnopened : ℕ → List ℕ → SectionRefusal → Type 0
+IsUnopened ends bytes (Frame refusal) = IsNoFrame bytes × (refusal ≡ frame_error bytes)
+IsUnopened ends bytes (Count section refusal) =
+    LacksCount ends bytes section ×
+    (refusal ≡ number_error 128 32 section.rest.now 4 section.rest.now)
+
+-- the same of the fault, in place of the refusal
+abbrev pub IsFaultOfOpening : ℕ → List ℕ → ListFault → Type 0
+IsFaultOfOpening ends bytes (faults.BadSection place) = IsNoFrame bytes
+IsFaultOfOpening ends bytes (faults.BadItem place) =
+    (section : SectionItems) × LacksCount ends bytes section
+IsFaultOfOpening ends bytes other = ⊥
 
 -- ---- where the bytes can't be read on
 
@@ -144,9 +177,10 @@ abbrev pub IsPlacedIn : List ℕ → SectionRefusal → Type 0
 IsPlacedIn bytes (Frame refusal) = refusal.left ≤ length bytes
 IsPlacedIn bytes (Count section refusal) = refusal.left ≤ length section.rest.now
 
--- What is left of a section with `count` items in a component with these bytes: some items were
--- taken, one after the other.
-pub record IsLeftOf (bytes : List ℕ) (count : ℕ) (left : SectionItems) : Type 0 where
+-- What is left of a section with `count` items in a component with these bytes, where the refusal
+-- has its cause: the items before were taken, one after the other.
+pub record IsLeftOf (bytes : List ℕ) (count : ℕ) (left : SectionItems) (refusal : NestedRefusal)
+    : Type 0 where
   pub here : List ℕ
   pub leaves : EndsWith bytes here
   pub first : SectionItems
@@ -155,6 +189,7 @@ pub record IsLeftOf (bytes : List ℕ) (count : ℕ) (left : SectionItems) : Typ
   pub xs : List Item
   pub taken : HasTaken first xs left
   pub are : count ≡ first.left
+  pub refused : IsRefusedIn left refusal
 
 -- where the bytes of a component can't be read on
 abbrev pub StopsInside : List ℕ → ListRefusal → Type 0
@@ -162,6 +197,5 @@ StopsInside bytes refusals.Memory = Unit {0}
 StopsInside bytes refusals.Header = Unit {0}
 StopsInside bytes (refusals.Section place refusal) =
     (here : List ℕ) × EndsWith bytes here × (place ≡ length bytes - length here) ×
-    IsPlacedIn here refusal × IsCountless (length bytes) here refusal
-StopsInside bytes (refusals.Item count left refusal) =
-    IsLeftOf bytes count left × (left_of refusal ≤ length left.rest.now)
+    IsPlacedIn here refusal × IsUnopened (length bytes) here refusal
+StopsInside bytes (refusals.Item count left refusal) = IsLeftOf bytes count left refusal

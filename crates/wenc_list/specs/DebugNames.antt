@@ -17,7 +17,7 @@ use Rattle.wenc_sections.specs.declared.space.Space.TheVariants.{CoreMemories, C
 use Rattle.wenc_sections.specs.declared.space.Space.TheVariants.{CoreInstances, CoreTags}
 use Rattle.wenc_sections.specs.declared.space.Space.TheVariants.{CoreGlobals, Funcs, Instances}
 use Rattle.wenc_sections.specs.declared.space.Space.TheVariants.{Values, Components, Types}
-use Rattle.wenc_view.specs.Members.{list_view, IsCounted}
+use Rattle.wenc_view.specs.Members.{Place, list_view, place_of}
 use Rattle.wenc_list.specs.declared.debug_names.ItemName.{ItemName}
 use Rattle.wenc_list.specs.declared.debug_names.Names.{Names}
 use Rattle.wenc_list.specs.declared.debug_names.Names.TheVariants as names
@@ -59,10 +59,10 @@ names_view (names.Component name) = ComponentName name.now
 names_view (names.Items space names) = ItemNames space (list_view read_item_name names)
 names_view (names.Raw id bytes) = RawNames id bytes.now
 
--- the names of items are as many as their list says
-abbrev pub IsCountedNames : Names → Type 0
-IsCountedNames (names.Items space names) = IsCounted read_item_name names
-IsCountedNames other = Unit {0}
+-- where the names of items are
+abbrev pub names_lists : Names → List Place
+names_lists (names.Items space names) = place_of read_item_name names ∷ []
+names_lists other = []
 
 abbrev pub read_core_sort : Reader Space
 read_core_sort = choose ((0x00, give CoreFuncs) ∷ (0x01, give CoreTables) ∷

@@ -12,13 +12,13 @@ use Rattle.wenc_parts.specs.Imports.{name_tree_view}
 use Rattle.wenc_sections.specs.InstanceTrees.{core_instance_tree_view, instance_tree_view}
 use Rattle.wenc_types.specs.CoreTypeTrees.{core_type_view}
 use Rattle.wenc_types.specs.TypeTrees.{type_view}
-use Rattle.wenc_view.specs.Canonicals.{canon_seen, IsCountedCanon}
-use Rattle.wenc_view.specs.CoreTypes.{core_type_seen, IsCountedCoreType}
-use Rattle.wenc_view.specs.Instances.{core_instance_seen, instance_seen}
-use Rattle.wenc_view.specs.Instances.{IsCountedCoreInstance, IsCountedInstance}
-use Rattle.wenc_view.specs.Members.{list_view, IsCounted}
+use Rattle.wenc_view.specs.Canonicals.{canon_lists, canon_seen}
+use Rattle.wenc_view.specs.CoreTypes.{core_type_lists, core_type_seen}
+use Rattle.wenc_view.specs.Instances.{core_instance_lists, core_instance_seen}
+use Rattle.wenc_view.specs.Instances.{instance_lists, instance_seen}
+use Rattle.wenc_view.specs.Members.{Place, list_view, place_of}
 use Rattle.wenc_view.specs.ExternNames.{name_seen}
-use Rattle.wenc_view.specs.TypeViews.{type_seen, IsCountedType}
+use Rattle.wenc_view.specs.TypeViews.{type_lists, type_seen}
 use Rattle.wenc_list.specs.declared.item.ItemTree.{ItemTree}
 use Rattle.wenc_list.specs.declared.item.ItemTree.TheVariants as trees
 use Rattle.wenc_list.specs.declared.item_view.ItemView.{ItemView}
@@ -61,15 +61,15 @@ item_seen (views.Export name kind index ty) =
 item_seen (views.Custom name bytes) =
     CustomItem (record { label = name.now; bytes = bytes.now })
 
--- each list of an item has as many members as it says
-abbrev pub IsCountedItem : ItemView → Type 0
-IsCountedItem (views.CoreInstance instance) = IsCountedCoreInstance instance
-IsCountedItem (views.CoreType ty) = IsCountedCoreType ty
-IsCountedItem (views.Instance instance) = IsCountedInstance instance
-IsCountedItem (views.«Type» ty) = IsCountedType ty
-IsCountedItem (views.Canon canon) = IsCountedCanon canon
-IsCountedItem (views.Start function args results) = IsCounted read_u32 args
-IsCountedItem other = Unit {0}
+-- where the lists of an item are
+abbrev pub item_lists : ItemView → List Place
+item_lists (views.CoreInstance instance) = core_instance_lists instance
+item_lists (views.CoreType ty) = core_type_lists ty
+item_lists (views.Instance instance) = instance_lists instance
+item_lists (views.«Type» ty) = type_lists ty
+item_lists (views.Canon canon) = canon_lists canon
+item_lists (views.Start function args results) = place_of read_u32 args ∷ []
+item_lists other = []
 
 -- an item that is a section of its own
 abbrev pub alone : ℕ → List Item → Section

@@ -36,6 +36,10 @@ pub record IsFramed (bytes : List ℕ) (id : ℕ) (content rest : List ℕ) : Ty
   pub known : id ≤ 11
   pub sized : (u32 (length content)).Reads Wide middle (content ++ rest)
 
+-- no section begins here, whatever its content: an unknown id, no size, or fewer bytes than that
+abbrev pub IsNoFrame : List ℕ → Type 0
+IsNoFrame bytes = (id : ℕ) (content rest : List ℕ) → IsFramed bytes id content rest → ⊥
+
 -- the content begins with a name, where it is that of a custom section
 abbrev pub IsLabelled : ℕ → List ℕ → Type 0
 IsLabelled zero content = (label bytes : List ℕ) × (name label).Reads Wide content bytes

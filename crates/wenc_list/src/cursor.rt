@@ -4,12 +4,13 @@ ghost use Rattle.std.specs.Prelude.{IfSome, MatchOption};
 ghost use Rattle.wenc_base.specs.Prelude.{Wide};
 ghost use Rattle.wenc_builder.specs.Prelude.{preamble};
 ghost use Rattle.wenc_list.specs.Prelude.{Opens, HasTaken, IsSpent, IsFaultIn, item_view};
-ghost use Rattle.wenc_list.specs.Prelude.{item_seen, IsCountedItem};
+ghost use Rattle.wenc_list.specs.Prelude.{item_seen, item_lists};
 ghost use Rattle.wenc_list.specs.Prelude.{IsFaultHere, HasNoHeader, fault_of_content, read_count};
-ghost use Rattle.wenc_list.specs.Prelude.{fault_of_items};
-ghost use Rattle.wenc_list.specs.Prelude.{fault_of_section, left_of, IsPlacedIn, IsCountless};
+ghost use Rattle.wenc_list.specs.Prelude.{fault_of_items, fault_of_section, IsPlacedIn};
+ghost use Rattle.wenc_list.specs.Prelude.{IsRefusedIn, IsUnopened, IsFaultOfOpening};
 ghost use Rattle.wenc_list.specs.declared.fault.ListFault.TheVariants.{Memory, NotAComponent};
-ghost use Rattle.wenc_read.specs.Prelude.{Gives, flaw_of, IsWithin};
+ghost use Rattle.wenc_read.specs.Prelude.{Gives, IsWithin, number_error};
+ghost use Rattle.wenc_view.specs.Prelude.{AreCounted};
 
 use crate::fault::ListFault;
 use crate::item::ItemTree;
@@ -103,6 +104,7 @@ pub(crate) fn counted(id: u8, content: &[u8]) -> Result<(u32, &[u8]), Refusal>
     requires { id ≤ 11 }
     ensures found { Gives (λ x. (x.0, x.1.now)) result (read_count id content.now) }
     ensures place { IsWithin (λ x. x.1.now) content.now result }
+    ensures refused { IfErr result (λ e. e ≡ number_error 128 32 content.now 4 content.now) }
 {
     match id {
         0 => Ok((1, content)),
@@ -158,8 +160,8 @@ impl<'a> Sections<'a> {
         // An error has its cause in the section that begins the remaining bytes.
         ensures fault { let place = self.old.ends - length self.old.rest.now in
             IfErr result (λ e. IsFaultHere place self.old.rest.now (fault_of_section e place)) }
-        // A section that is named has no count.
-        ensures countless { IfErr result (IsCountless self.old.ends self.old.rest.now) }
+        // No section begins them, or the one that is named has no count.
+        ensures unopened { IfErr result (IsUnopened self.old.ends self.old.rest.now) }
         // Its place is in them.
         ensures within { IfErr result (IsPlacedIn self.old.rest.now) }
         ensures some { IfErr result (λ _. 0 < length self.old.rest.now) }
@@ -214,6 +216,8 @@ impl<'a> Sections<'a> {
         // A fault has its cause in the section that begins the remaining bytes.
         ensures fault { IfErr result (IsFaultHere (self.old.ends - length self.old.rest.now)
             self.old.rest.now) }
+        // No section begins them, or one whose items have no count.
+        ensures unopened { IfErr result (IsFaultOfOpening self.old.ends self.old.rest.now) }
         ensures some { IfErr result (λ _. 0 < length self.old.rest.now) }
         // It is never `Memory`.
         ensures asks_nothing { IfErr result (λ e. e ≢ Memory) }
@@ -245,16 +249,15 @@ impl<'a> SectionItems<'a> {
         // remain.
         ensures taken { IfOk result (λ o. MatchOption o (IsSpent self.old)
             (λ x. HasTaken self.old (item_seen x ∷ []) self.new)) }
-        // Each list in it has as many members as it says.
-        ensures counted { IfOk result (λ o. IfSome o IsCountedItem) }
+        // Its lists are there, each behind its count, with as many members.
+        ensures counted { IfOk result (λ o. IfSome o (λ x.
+            AreCounted self.old.rest.now (item_lists x) self.new.rest.now)) }
         // Otherwise nothing changes.
         ensures unchanged { IfOk result (λ o. MatchOption o (self.new ≡ self.old)
             (λ _. Unit {0})) }
         ensures refused { IfErr result (λ _. self.new ≡ self.old) }
-        // An error has its cause in the remaining bytes.
-        ensures fault { IfErr result (λ e. IsFaultIn self.old (fault_of_items self.old e)) }
-        // Its place is in them.
-        ensures within { IfErr result (λ e. left_of e ≤ length self.old.rest.now) }
+        // An error has its cause and its place in the remaining bytes.
+        ensures fault { IfErr result (IsRefusedIn self.old) }
     {
         are_bytes(self.rest);
         if self.left == 0 {
@@ -284,8 +287,9 @@ impl<'a> SectionItems<'a> {
         // remain.
         ensures taken { IfOk result (λ o. MatchOption o (IsSpent self.old)
             (λ x. HasTaken self.old (item_seen x ∷ []) self.new)) }
-        // Each list in it has as many members as it says.
-        ensures counted { IfOk result (λ o. IfSome o IsCountedItem) }
+        // Its lists are there, each behind its count, with as many members.
+        ensures counted { IfOk result (λ o. IfSome o (λ x.
+            AreCounted self.old.rest.now (item_lists x) self.new.rest.now)) }
         // Otherwise nothing changes.
         ensures unchanged { IfOk result (λ o. MatchOption o (self.new ≡ self.old)
             (λ _. Unit {0})) }

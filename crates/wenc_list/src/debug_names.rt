@@ -1,11 +1,12 @@
 //! The subsections of a name section, and the sections of a core module.
-ghost use Rattle.std.specs.Prelude.{◌≤◌, ℕ, List, length, IfOk, IfErr, MatchOption};
+ghost use Rattle.std.specs.Prelude.{◌≤◌, ℕ, List, [], length, IfOk, IfErr, MatchOption};
 ghost use Rattle.wenc_base.specs.Prelude.{module_preamble, Wide, done, read_name, NameAssociation};
 ghost use Rattle.wenc_base.specs.Prelude.{name_association_lawful};
 ghost use Rattle.wenc_list.specs.Prelude.{names_view, read_part, read_core_sort, read_sort};
 ghost use Rattle.wenc_list.specs.Prelude.{read_item_names, read_names_in, item_name_view};
-ghost use Rattle.wenc_list.specs.Prelude.{item_name_sound, IsCountedNames};
+ghost use Rattle.wenc_list.specs.Prelude.{item_name_sound, names_lists};
 ghost use Rattle.wenc_read.specs.Prelude.{Gives, IsWithin, read_by};
+ghost use Rattle.wenc_view.specs.Prelude.{AreCounted};
 
 use wenc_read::{Expected, Refusal, byte, u32_of};
 use wenc_sections::Space;
@@ -135,7 +136,7 @@ fn component_name(content: &[u8]) -> Result<&str, Refusal>
 fn item_names(content: &[u8]) -> Result<Names<'_>, Refusal>
     ensures found { Gives names_view result (done read_item_names content.now) }
     ensures place { IfErr result (λ e. e.left ≤ length content.now) }
-    ensures counted { IfOk result IsCountedNames }
+    ensures counted { IfOk result (λ n. AreCounted content.now (names_lists n) []) }
 {
     let (space, rest) = space_of(content)?;
     let (names, rest) = ListOf::view_of(rest)?;
@@ -161,7 +162,7 @@ fn item_names(content: &[u8]) -> Result<Names<'_>, Refusal>
 pub fn names_in(id: u8, content: &[u8]) -> Result<Names<'_>, Refusal>
     ensures found { Gives names_view result (read_names_in id content.now) }
     ensures place { IfErr result (λ e. e.left ≤ length content.now) }
-    ensures counted { IfOk result IsCountedNames }
+    ensures counted { IfOk result (λ n. AreCounted content.now (names_lists n) []) }
 {
     match id {
         0 => Ok(Names::Component(component_name(content)?)),

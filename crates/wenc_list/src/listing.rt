@@ -6,8 +6,7 @@ ghost use Rattle.wenc_builder.specs.Prelude.{Section, Reading};
 ghost use Rattle.wenc_list.specs.Prelude.{Space, item_view, section_view, AreWithin, AreFrom};
 ghost use Rattle.wenc_list.specs.Prelude.{ArePlaced, count_of_sections, IsFaultOf};
 ghost use Rattle.wenc_list.specs.Prelude.{IsMemoryOrTooDeep, HasNoHeader, IsFaultBehind, TakesAll};
-ghost use Rattle.wenc_list.specs.Prelude.{FaultsIn, HasTaken, IsFaultHere, IsFaultIn, IsSpent};
-ghost use Rattle.wenc_list.specs.Prelude.{IsNextOf, IsNextSectionOf, Opens, StopsIn};
+ghost use Rattle.wenc_list.specs.Prelude.{FaultsIn, IsFaultHere, IsNextSectionOf, Opens, StopsIn};
 ghost use Rattle.wenc_list.specs.Prelude.{StopsInside, fault_of_list};
 ghost use Rattle.wenc_list.specs.declared.fault.ListFault.TheVariants.{Memory, NotAComponent};
 ghost use Rattle.wenc_list.specs.declared.refusal.ListRefusal.TheVariants.{Header};
@@ -46,33 +45,6 @@ pub struct Listing<A: Allocator = Global> {
     pub counts: [u128; 13],
 }
 
-/// Returns the next item as an owned value, or `None` at the end.
-#[inline(always)]
-fn next_item<'a, A: Allocator + Copy>(
-    alloc: A,
-    count: u32,
-    left: &mut SectionItems<'a>,
-) -> Result<Option<ItemTree<A>>, ListRefusal<'a>>
-    ensures taken { IfOk result (λ o. MatchOption o (IsSpent left.old)
-        (λ x. HasTaken left.old (item_view x ∷ []) left.new)) }
-    ensures unchanged { IfOk result (λ o. MatchOption o (left.new ≡ left.old) (λ _. Unit {0})) }
-    ensures fault { IfErr result (λ e. IsFaultIn left.old (fault_of_list e)) }
-    ensures stopped { IfErr result (IsNextOf count left.old) }
-{
-    match left.next_or_refusal() {
-        Ok(Some(item)) => {
-            let item = ItemTree::tree_of(alloc, item)?;
-            Ok(Some(item))
-        }
-        Ok(None) => Ok(None),
-        Err(refusal) => Err(ListRefusal::Item {
-            count,
-            left: *left,
-            refusal,
-        }),
-    }
-}
-
 /// Returns the next section, or `None` at the end.
 #[inline(always)]
 fn next_section<'a>(left: &mut Sections<'a>) -> Result<Option<SectionItems<'a>>, ListRefusal<'a>>
@@ -109,15 +81,29 @@ fn section<A: Allocator + Copy>(
 {
     let mut left = from;
     let mut items = Vec::with_capacity(alloc, room_for(left.left, left.rest))?;
-    while let Some(item) = next_item(alloc, from.left, &mut left)? {
-        items.push(item)?;
+    loop {
+        match left.next_or_refusal() {
+            Ok(Some(item)) => {
+                let item = ItemTree::tree_of(alloc, item)?;
+                items.push(item)?;
+            }
+            Ok(None) => {
+                return Ok(ListedSection {
+                    id: from.id,
+                    place: from.place,
+                    ends: from.ends,
+                    items,
+                });
+            }
+            Err(refusal) => {
+                return Err(ListRefusal::Item {
+                    count: from.left,
+                    left,
+                    refusal,
+                });
+            }
+        }
     }
-    Ok(ListedSection {
-        id: from.id,
-        place: from.place,
-        ends: from.ends,
-        items,
-    })
 }
 
 /// Reads the sections up to the end, and counts the indices that their items take.

@@ -4,9 +4,9 @@ ghost use Rattle.wenc_base.specs.Prelude.{read_raw};
 ghost use Rattle.wenc_list.specs.Prelude.{read_core_instance_item, read_core_type_item};
 ghost use Rattle.wenc_list.specs.Prelude.{read_instance_item, read_alias_item, read_type_item};
 ghost use Rattle.wenc_list.specs.Prelude.{read_canonical_item, read_import_item, read_export_item};
-ghost use Rattle.wenc_list.specs.Prelude.{read_item_in, item_seen, IsCountedItem};
+ghost use Rattle.wenc_list.specs.Prelude.{read_item_in, item_seen, item_lists};
 ghost use Rattle.wenc_read.specs.Prelude.{Gives, IsWithin, IsWithinNested};
-ghost use Rattle.wenc_view.specs.Prelude.{GivesNested};
+ghost use Rattle.wenc_view.specs.Prelude.{GivesNested, AreCounted};
 
 use crate::item_view::ItemView;
 use crate::sections::are_bytes;
@@ -26,7 +26,7 @@ fn core_instance(bytes: &[u8]) -> Result<(ItemView<'_>, &[u8]), Refusal>
     ensures found { Gives (λ x. (item_seen x.0, x.1.now)) result
         (read_core_instance_item bytes.now) }
     ensures place { IsWithin (λ x. x.1.now) bytes.now result }
-    ensures counted { IfOk result (λ x. IsCountedItem x.0) }
+    ensures counted { IfOk result (λ x. AreCounted bytes.now (item_lists x.0) x.1.now) }
 {
     let (instance, rest) = CoreInstanceView::view_of(bytes)?;
     Ok((ItemView::CoreInstance(instance), rest))
@@ -38,7 +38,7 @@ fn core_type(bytes: &[u8]) -> Result<(ItemView<'_>, &[u8]), Refusal>
     ensures found { Gives (λ x. (item_seen x.0, x.1.now)) result
         (read_core_type_item bytes.now) }
     ensures place { IsWithin (λ x. x.1.now) bytes.now result }
-    ensures counted { IfOk result (λ x. IsCountedItem x.0) }
+    ensures counted { IfOk result (λ x. AreCounted bytes.now (item_lists x.0) x.1.now) }
 {
     let (ty, rest) = CoreTypeView::view_of(bytes)?;
     Ok((ItemView::CoreType(ty), rest))
@@ -50,7 +50,7 @@ fn instance(bytes: &[u8]) -> Result<(ItemView<'_>, &[u8]), Refusal>
     ensures found { Gives (λ x. (item_seen x.0, x.1.now)) result
         (read_instance_item bytes.now) }
     ensures place { IsWithin (λ x. x.1.now) bytes.now result }
-    ensures counted { IfOk result (λ x. IsCountedItem x.0) }
+    ensures counted { IfOk result (λ x. AreCounted bytes.now (item_lists x.0) x.1.now) }
 {
     let (instance, rest) = InstanceView::view_of(bytes)?;
     Ok((ItemView::Instance(instance), rest))
@@ -61,7 +61,7 @@ fn instance(bytes: &[u8]) -> Result<(ItemView<'_>, &[u8]), Refusal>
 fn alias(bytes: &[u8]) -> Result<(ItemView<'_>, &[u8]), Refusal>
     ensures found { Gives (λ x. (item_seen x.0, x.1.now)) result (read_alias_item bytes.now) }
     ensures place { IsWithin (λ x. x.1.now) bytes.now result }
-    ensures counted { IfOk result (λ x. IsCountedItem x.0) }
+    ensures counted { IfOk result (λ x. AreCounted bytes.now (item_lists x.0) x.1.now) }
 {
     let (alias, rest) = Alias::view_of(bytes)?;
     Ok((ItemView::Alias(alias), rest))
@@ -73,7 +73,7 @@ fn ty(bytes: &[u8]) -> Result<(ItemView<'_>, &[u8]), NestedRefusal>
     ensures found { GivesNested (λ x. (item_seen x.0, x.1.now)) result
         (read_type_item 100 bytes.now) }
     ensures place { IsWithinNested (λ x. x.1.now) bytes.now result }
-    ensures counted { IfOk result (λ x. IsCountedItem x.0) }
+    ensures counted { IfOk result (λ x. AreCounted bytes.now (item_lists x.0) x.1.now) }
 {
     let (ty, rest) = type_at(DEPTH, bytes)?;
     Ok((ItemView::Type(ty), rest))
@@ -85,7 +85,7 @@ fn canon(bytes: &[u8]) -> Result<(ItemView<'_>, &[u8]), Refusal>
     ensures found { Gives (λ x. (item_seen x.0, x.1.now)) result
         (read_canonical_item bytes.now) }
     ensures place { IsWithin (λ x. x.1.now) bytes.now result }
-    ensures counted { IfOk result (λ x. IsCountedItem x.0) }
+    ensures counted { IfOk result (λ x. AreCounted bytes.now (item_lists x.0) x.1.now) }
 {
     let (canon, rest) = CanonView::view_of(bytes)?;
     Ok((ItemView::Canon(canon), rest))
@@ -97,7 +97,7 @@ fn import(bytes: &[u8]) -> Result<(ItemView<'_>, &[u8]), Refusal>
     ensures found { Gives (λ x. (item_seen x.0, x.1.now)) result
         (read_import_item bytes.now) }
     ensures place { IsWithin (λ x. x.1.now) bytes.now result }
-    ensures counted { IfOk result (λ x. IsCountedItem x.0) }
+    ensures counted { IfOk result (λ x. AreCounted bytes.now (item_lists x.0) x.1.now) }
 {
     let (name, rest) = NameView::view_of(bytes)?;
     let (ty, rest) = ComponentTypeRef::view_of(rest)?;
@@ -110,7 +110,7 @@ fn export(bytes: &[u8]) -> Result<(ItemView<'_>, &[u8]), Refusal>
     ensures found { Gives (λ x. (item_seen x.0, x.1.now)) result
         (read_export_item bytes.now) }
     ensures place { IsWithin (λ x. x.1.now) bytes.now result }
-    ensures counted { IfOk result (λ x. IsCountedItem x.0) }
+    ensures counted { IfOk result (λ x. AreCounted bytes.now (item_lists x.0) x.1.now) }
 {
     let (name, rest) = NameView::view_of(bytes)?;
     let (kind, rest) = ComponentExportKind::view_of(rest)?;
@@ -138,7 +138,7 @@ fn custom(content: &[u8]) -> Result<(ItemView<'_>, &[u8]), Refusal>
     ensures found { Gives (λ x. (item_seen x.0, x.1.now)) result
         (read_item_in 100 0 content.now) }
     ensures place { IsWithin (λ x. x.1.now) content.now result }
-    ensures counted { IfOk result (λ x. IsCountedItem x.0) }
+    ensures counted { IfOk result (λ x. AreCounted content.now (item_lists x.0) x.1.now) }
 {
     let (name, rest) = text_of(content)?;
     let data = raw(rest);
@@ -150,7 +150,7 @@ fn module(content: &[u8]) -> Result<(ItemView<'_>, &[u8]), Refusal>
     ensures found { Gives (λ x. (item_seen x.0, x.1.now)) result
         (read_item_in 100 1 content.now) }
     ensures place { IsWithin (λ x. x.1.now) content.now result }
-    ensures counted { IfOk result (λ x. IsCountedItem x.0) }
+    ensures counted { IfOk result (λ x. AreCounted content.now (item_lists x.0) x.1.now) }
 {
     Ok((ItemView::Module(raw(content)), &[]))
 }
@@ -160,7 +160,7 @@ fn component(content: &[u8]) -> Result<(ItemView<'_>, &[u8]), Refusal>
     ensures found { Gives (λ x. (item_seen x.0, x.1.now)) result
         (read_item_in 100 4 content.now) }
     ensures place { IsWithin (λ x. x.1.now) content.now result }
-    ensures counted { IfOk result (λ x. IsCountedItem x.0) }
+    ensures counted { IfOk result (λ x. AreCounted content.now (item_lists x.0) x.1.now) }
 {
     Ok((ItemView::Component(raw(content)), &[]))
 }
@@ -170,7 +170,7 @@ fn start(bytes: &[u8]) -> Result<(ItemView<'_>, &[u8]), Refusal>
     ensures found { Gives (λ x. (item_seen x.0, x.1.now)) result
         (read_item_in 100 9 bytes.now) }
     ensures place { IsWithin (λ x. x.1.now) bytes.now result }
-    ensures counted { IfOk result (λ x. IsCountedItem x.0) }
+    ensures counted { IfOk result (λ x. AreCounted bytes.now (item_lists x.0) x.1.now) }
 {
     let (function, rest) = u32_of(bytes)?;
     let (args, rest) = ListOf::view_of(rest)?;
@@ -191,7 +191,7 @@ fn alone(id: u8, content: &[u8]) -> Result<(ItemView<'_>, &[u8]), Refusal>
     ensures found { Gives (λ x. (item_seen x.0, x.1.now)) result
         (read_item_in 100 id content.now) }
     ensures place { IsWithin (λ x. x.1.now) content.now result }
-    ensures counted { IfOk result (λ x. IsCountedItem x.0) }
+    ensures counted { IfOk result (λ x. AreCounted content.now (item_lists x.0) x.1.now) }
 {
     match id {
         0 => custom(content),
@@ -208,7 +208,7 @@ pub(crate) fn item_in(id: u8, bytes: &[u8]) -> Result<(ItemView<'_>, &[u8]), Nes
     ensures found { GivesNested (λ x. (item_seen x.0, x.1.now)) result
         (read_item_in 100 id bytes.now) }
     ensures place { IsWithinNested (λ x. x.1.now) bytes.now result }
-    ensures counted { IfOk result (λ x. IsCountedItem x.0) }
+    ensures counted { IfOk result (λ x. AreCounted bytes.now (item_lists x.0) x.1.now) }
 {
     match id {
         0 | 1 | 4 | 9 => Ok(alone(id, bytes)?),

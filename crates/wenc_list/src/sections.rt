@@ -1,6 +1,7 @@
 //! Sections, and the bytes in them.
+ghost use Rattle.std.specs.Prelude.{◌≡◌, IfErr};
 ghost use Rattle.wenc_base.specs.Prelude.{AreBytes};
-ghost use Rattle.wenc_list.specs.Prelude.{read_frame};
+ghost use Rattle.wenc_list.specs.Prelude.{read_frame, frame_error};
 ghost use Rattle.wenc_read.specs.Prelude.{Gives, IsWithin};
 
 use wenc_read::{Expected, Refusal, byte, u32_of};
@@ -16,6 +17,7 @@ pub(crate) fn are_bytes(bytes: &[u8])
 pub(crate) fn frame(bytes: &[u8]) -> Result<((u8, &[u8]), &[u8]), Refusal>
     ensures found { Gives (λ x. ((x.0.0, x.0.1.now), x.1.now)) result (read_frame bytes.now) }
     ensures place { IsWithin (λ x. x.1.now) bytes.now result }
+    ensures refused { IfErr result (λ e. e ≡ frame_error bytes.now) }
 {
     let (id, rest) = byte(bytes)?;
     if id > 11 {

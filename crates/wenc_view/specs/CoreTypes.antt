@@ -1,11 +1,12 @@
 -- Borrowed core types as pure ones.
+use Rattle.std.specs.Prelude.{List, [], ◌∷◌}
 use Rattle.wenc_base.specs.Composites.{Composite, Func, Array, Struct, Sub, RecType, Single, Rec}
 use Rattle.wenc_base.specs.reading.Composites.{read_field_type, read_sub_type}
 use Rattle.wenc_base.specs.reading.Types.{read_val_type}
 use Rattle.wenc_types.specs.CoreTypes.{ModuleDeclaration, ModuleImport, ModuleRecType, ModuleOuter}
 use Rattle.wenc_types.specs.CoreTypes.{ModuleExport, CoreType, Grouped, Module}
 use Rattle.wenc_types.specs.reading.CoreTypes.{read_module_declaration}
-use Rattle.wenc_view.specs.Members.{list_view, IsCounted}
+use Rattle.wenc_view.specs.Members.{Place, list_view, place_of}
 use Rattle.wenc_view.specs.declared.composites.CompositeView.{CompositeView}
 use Rattle.wenc_view.specs.declared.composites.CompositeView.TheVariants as composites
 use Rattle.wenc_view.specs.declared.composites.SubView.{SubView}
@@ -43,21 +44,21 @@ abbrev pub core_type_seen : CoreTypeView → CoreType
 core_type_seen (views.Group g) = Grouped (rec_type_seen g)
 core_type_seen (views.Module ds) = Module (list_view read_module_declaration ds)
 
--- each list of a core type has as many members as it says
-abbrev pub IsCountedComposite : CompositeView → Type 0
-IsCountedComposite (composites.Func params results) =
-    IsCounted read_val_type params × IsCounted read_val_type results
-IsCountedComposite (composites.Array element) = Unit {0}
-IsCountedComposite (composites.Struct fields) = IsCounted read_field_type fields
+-- where its lists are
+abbrev pub composite_lists : CompositeView → List Place
+composite_lists (composites.Func params results) =
+    place_of read_val_type params ∷ place_of read_val_type results ∷ []
+composite_lists (composites.Array element) = []
+composite_lists (composites.Struct fields) = place_of read_field_type fields ∷ []
 
-abbrev pub IsCountedGroup : GroupView → Type 0
-IsCountedGroup (groups.Sub s) = IsCountedComposite s.composite_type
-IsCountedGroup (groups.Rec types) = IsCounted read_sub_type types
+abbrev pub group_lists : GroupView → List Place
+group_lists (groups.Sub s) = composite_lists s.composite_type
+group_lists (groups.Rec types) = place_of read_sub_type types ∷ []
 
-abbrev pub IsCountedModuleDecl : ModuleDeclView → Type 0
-IsCountedModuleDecl (decls.«Type» g) = IsCountedGroup g
-IsCountedModuleDecl other = Unit {0}
+abbrev pub module_declaration_lists : ModuleDeclView → List Place
+module_declaration_lists (decls.«Type» g) = group_lists g
+module_declaration_lists other = []
 
-abbrev pub IsCountedCoreType : CoreTypeView → Type 0
-IsCountedCoreType (views.Group g) = IsCountedGroup g
-IsCountedCoreType (views.Module ds) = IsCounted read_module_declaration ds
+abbrev pub core_type_lists : CoreTypeView → List Place
+core_type_lists (views.Group g) = group_lists g
+core_type_lists (views.Module ds) = place_of read_module_declaration ds ∷ []

@@ -1,5 +1,5 @@
 -- Borrowed types as pure ones.
-use Rattle.std.specs.Prelude.{ℕ, List}
+use Rattle.std.specs.Prelude.{ℕ, List, [], ◌∷◌}
 use Rattle.std.specs.Borrow.{Bor}
 use Rattle.wenc_base.specs.reading.Forms.{read_name}
 use Rattle.wenc_parts.specs.declared.types.ComponentValType.{ComponentValType}
@@ -10,7 +10,7 @@ use Rattle.wenc_types.specs.reading.DefinedTypes.{read_labelled_type, read_case}
 use Rattle.wenc_view.specs.declared.defined_types.CaseView.{CaseView}
 use Rattle.wenc_view.specs.declared.defined_types.DefinedView.{DefinedView}
 use Rattle.wenc_view.specs.declared.defined_types.DefinedView.TheVariants as views
-use Rattle.wenc_view.specs.Members.{list_view, IsCounted}
+use Rattle.wenc_view.specs.Members.{Place, list_view, place_of}
 
 abbrev pub labelled_seen : Bor (List ℕ) × ComponentValType → LabelledType
 labelled_seen f = record { name = f.0.now; ty = f.1 }
@@ -35,11 +35,11 @@ defined_seen (views.Borrow number) = pure.Borrow number
 defined_seen (views.Future ty) = pure.Future ty
 defined_seen (views.Stream ty) = pure.Stream ty
 
--- its list has as many members as it says
-abbrev pub IsCountedDefined : DefinedView → Type 0
-IsCountedDefined (views.Record fields) = IsCounted read_labelled_type fields
-IsCountedDefined (views.Variant cases) = IsCounted read_case cases
-IsCountedDefined (views.Tuple elements) = IsCounted read_value_type elements
-IsCountedDefined (views.Flags names) = IsCounted read_name names
-IsCountedDefined (views.Enum names) = IsCounted read_name names
-IsCountedDefined other = Unit {0}
+-- where its list is
+abbrev pub defined_lists : DefinedView → List Place
+defined_lists (views.Record fields) = place_of read_labelled_type fields ∷ []
+defined_lists (views.Variant cases) = place_of read_case cases ∷ []
+defined_lists (views.Tuple elements) = place_of read_value_type elements ∷ []
+defined_lists (views.Flags names) = place_of read_name names ∷ []
+defined_lists (views.Enum names) = place_of read_name names ∷ []
+defined_lists other = []

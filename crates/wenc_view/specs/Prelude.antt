@@ -1,5 +1,6 @@
 -- The names that clauses cite, re-exported from the files that define them.
-pub use Rattle.wenc_view.specs.Members.{members_of, list_view, GivesFirst, IsCounted}
+pub use Rattle.wenc_view.specs.Members.{AreCounted, GivesFirst, Place, list_view, members_of}
+pub use Rattle.wenc_view.specs.Members.{place_of}
 pub use Rattle.wenc_view.specs.ExternNames.{name_seen}
 pub use Rattle.wenc_view.specs.Texts.{name_error}
 pub use Rattle.wenc_view.specs.inside.ExternNames.{option_seen, read_options}
@@ -10,12 +11,12 @@ pub use Rattle.wenc_parts.specs.declared.imports.ComponentTypeRef.{ComponentType
 pub use Rattle.wenc_parts.specs.declared.imports.TypeBounds.{TypeBounds}
 pub use Rattle.wenc_parts.specs.declared.types.ComponentValType.{ComponentValType}
 pub use Rattle.wenc_view.specs.DefinedTypes.{labelled_seen, case_seen, defined_seen}
-pub use Rattle.wenc_view.specs.DefinedTypes.{IsCountedDefined}
+pub use Rattle.wenc_view.specs.DefinedTypes.{defined_lists}
 pub use Rattle.wenc_view.specs.laws.TypeTrees.{defined_sound, type_finds, type_tells}
 pub use Rattle.wenc_view.specs.CoreTypes.{composite_seen, sub_seen, rec_type_seen}
 pub use Rattle.wenc_view.specs.CoreTypes.{module_declaration_seen, core_type_seen}
-pub use Rattle.wenc_view.specs.CoreTypes.{IsCountedComposite, IsCountedGroup, IsCountedModuleDecl}
-pub use Rattle.wenc_view.specs.CoreTypes.{IsCountedCoreType}
+pub use Rattle.wenc_view.specs.CoreTypes.{composite_lists, core_type_lists, group_lists}
+pub use Rattle.wenc_view.specs.CoreTypes.{module_declaration_lists}
 pub use Rattle.wenc_view.specs.inside.CoreTypes.{read_guarded, read_referred}
 pub use Rattle.wenc_view.specs.inside.Entities.{memory_so, read_bounds, read_maximum, table_so}
 pub use Rattle.wenc_base.specs.declared.exports.ExportKind.{ExportKind}
@@ -33,16 +34,16 @@ pub use Rattle.wenc_parts.specs.declared.exports.ComponentExportKind.{ComponentE
 pub use Rattle.wenc_parts.specs.declared.instances.ModuleArg.{ModuleArg}
 pub use Rattle.wenc_view.specs.Gives.{GivesNested}
 pub use Rattle.wenc_view.specs.TypeViews.{type_seen, instance_declaration_seen}
-pub use Rattle.wenc_view.specs.TypeViews.{component_declaration_seen, IsCountedType}
-pub use Rattle.wenc_view.specs.TypeViews.{IsCountedInstanceDecl, IsCountedComponentDecl}
+pub use Rattle.wenc_view.specs.TypeViews.{component_declaration_seen, type_lists}
+pub use Rattle.wenc_view.specs.TypeViews.{instance_declaration_lists, component_declaration_lists}
 pub use Rattle.wenc_view.specs.TypeViews.{component_members, instance_members, type_nests}
 pub use Rattle.wenc_view.specs.TypeViews.{instance_declaration_nests, component_declaration_nests}
-pub use Rattle.wenc_view.specs.Canonicals.{canon_seen, IsCountedCanon}
-pub use Rattle.wenc_view.specs.Instances.{core_instance_seen, instance_seen, IsCountedCoreInstance}
-pub use Rattle.wenc_view.specs.Instances.{IsCountedInstance}
+pub use Rattle.wenc_view.specs.Canonicals.{canon_lists, canon_seen}
+pub use Rattle.wenc_view.specs.Instances.{core_instance_lists, core_instance_seen}
+pub use Rattle.wenc_view.specs.Instances.{instance_lists, instance_seen}
 pub use Rattle.wenc_view.specs.inside.Canonicals.{error_context_rows, forward_rows, future_rows}
 pub use Rattle.wenc_view.specs.inside.Canonicals.{read_ty_and_options, read_waited_memory}
 pub use Rattle.wenc_view.specs.inside.Canonicals.{read_zero, stream_rows, thread_rows}
 pub use Rattle.wenc_canon.specs.declared.canonicals.CanonicalOption.{CanonicalOption}
-pub use Rattle.wenc_view.specs.laws.Members.{are_counted, members_are}
+pub use Rattle.wenc_view.specs.laws.Members.{are_counted, list_counted, members_are}
 pub use Rattle.wenc_view.specs.laws.Repeats.{at_start, is_done, stops, times_go_on}

@@ -1,5 +1,5 @@
 -- Borrowed types as pure ones.
-use Rattle.std.specs.Prelude.{◌≡◌, ℕ, ◌+◌, List, length}
+use Rattle.std.specs.Prelude.{ℕ, ◌+◌, List, [], ◌∷◌}
 use Rattle.wenc_parts.specs.Aliases.{alias_view}
 use Rattle.wenc_types.specs.ComponentTypes.{DefType, DefinedType, FunctionType, ComponentType}
 use Rattle.wenc_types.specs.ComponentTypes.{InstanceType, ResourceType, InstanceDeclaration}
@@ -9,9 +9,9 @@ use Rattle.wenc_types.specs.ComponentTypes.{instances_of, components_of}
 use Rattle.wenc_types.specs.reading.ComponentTypes.{read_type, read_component_declaration}
 use Rattle.wenc_types.specs.reading.ComponentTypes.{read_instance_declaration}
 use Rattle.wenc_types.specs.reading.DefinedTypes.{read_labelled_type, to_function}
-use Rattle.wenc_view.specs.CoreTypes.{core_type_seen, IsCountedCoreType}
-use Rattle.wenc_view.specs.DefinedTypes.{defined_seen, IsCountedDefined}
-use Rattle.wenc_view.specs.Members.{members_of, list_view, IsCounted}
+use Rattle.wenc_view.specs.CoreTypes.{core_type_lists, core_type_seen}
+use Rattle.wenc_view.specs.DefinedTypes.{defined_lists, defined_seen}
+use Rattle.wenc_view.specs.Members.{Place, list_view, members_of, place_in, place_of}
 use Rattle.wenc_view.specs.ExternNames.{name_seen}
 use Rattle.wenc_view.specs.declared.type_views.ComponentDecls.{ComponentDecls}
 use Rattle.wenc_view.specs.declared.type_views.InstanceDecls.{InstanceDecls}
@@ -63,19 +63,21 @@ abbrev pub component_declaration_nests : ComponentDeclView → ℕ
 component_declaration_nests (components.Decl d) = instance_declaration_nests d
 component_declaration_nests other = 0
 
--- each list of a type, or of a declaration, has as many members as it says
-abbrev pub IsCountedType : TypeView → Type 0
-IsCountedType (types.Defined ty) = IsCountedDefined ty
-IsCountedType (types.Func is_async params answer) = IsCounted read_labelled_type params
-IsCountedType (types.Component ds) = ds.left ≡ length (component_members ds)
-IsCountedType (types.Instance ds) = ds.left ≡ length (instance_members ds)
-IsCountedType (types.Resource rep dtor) = Unit {0}
+-- where its lists are
+abbrev pub type_lists : TypeView → List Place
+type_lists (types.Defined ty) = defined_lists ty
+type_lists (types.Func is_async params answer) = place_of read_labelled_type params ∷ []
+type_lists (types.Component ds) =
+    place_in (read_component_declaration (read_type ds.depth_left)) ds.left ds.bytes.now ∷ []
+type_lists (types.Instance ds) =
+    place_in (read_instance_declaration (read_type ds.depth_left)) ds.left ds.bytes.now ∷ []
+type_lists (types.Resource rep dtor) = []
 
-abbrev pub IsCountedInstanceDecl : InstanceDeclView → Type 0
-IsCountedInstanceDecl (instances.CoreType ty) = IsCountedCoreType ty
-IsCountedInstanceDecl (instances.«Type» ty) = IsCountedType ty
-IsCountedInstanceDecl other = Unit {0}
+abbrev pub instance_declaration_lists : InstanceDeclView → List Place
+instance_declaration_lists (instances.CoreType ty) = core_type_lists ty
+instance_declaration_lists (instances.«Type» ty) = type_lists ty
+instance_declaration_lists other = []
 
-abbrev pub IsCountedComponentDecl : ComponentDeclView → Type 0
-IsCountedComponentDecl (components.Import name ty) = Unit {0}
-IsCountedComponentDecl (components.Decl d) = IsCountedInstanceDecl d
+abbrev pub component_declaration_lists : ComponentDeclView → List Place
+component_declaration_lists (components.Import name ty) = []
+component_declaration_lists (components.Decl d) = instance_declaration_lists d

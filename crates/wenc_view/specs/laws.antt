@@ -1,3 +1,4 @@
 pub mod Repeats
 pub mod Members
+pub mod Lists
 pub mod TypeTrees

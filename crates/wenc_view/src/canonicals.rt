@@ -1,5 +1,5 @@
 //! Canonical functions, each by its opcode.
-ghost use Rattle.std.specs.Prelude.{◌∷◌, IfOk};
+ghost use Rattle.std.specs.Prelude.{[], ◌∷◌, IfOk};
 ghost use Rattle.wenc_base.specs.Prelude.{pick, nowhere, read_u32};
 ghost use Rattle.wenc_canon.specs.Prelude.{read_lifted, read_lowered, rows, read_canonical_option};
 ghost use Rattle.wenc_canon.specs.Prelude.{canonical_option_sound, canonical_option_lawful};
@@ -7,7 +7,7 @@ ghost use Rattle.wenc_canon.specs.Prelude.{Canonical, canonical_sound, canonical
 ghost use Rattle.wenc_view.specs.Prelude.{read_zero, stream_rows, future_rows, error_context_rows};
 ghost use Rattle.wenc_view.specs.Prelude.{thread_rows, forward_rows, read_ty_and_options};
 ghost use Rattle.wenc_view.specs.Prelude.{read_waited_memory, CanonicalOption as Value'};
-ghost use Rattle.wenc_view.specs.Prelude.{canon_seen, list_view, IsCounted, IsCountedCanon};
+ghost use Rattle.wenc_view.specs.Prelude.{canon_seen, list_view, place_of, canon_lists, AreCounted};
 ghost use Rattle.wenc_read.specs.Prelude.{Gives, IsWithin, read_by};
 
 use crate::list_of::ListOf;
@@ -87,7 +87,7 @@ fn index(bytes: &[u8]) -> Result<(u32, &[u8]), Refusal>
 fn lifted(bytes: &[u8]) -> Result<(CanonView<'_>, &[u8]), Refusal>
     ensures found { Gives (λ x. (canon_seen x.0, x.1.now)) result (read_lifted bytes.now) }
     ensures place { IsWithin (λ x. x.1.now) bytes.now result }
-    ensures counted { IfOk result (λ x. IsCountedCanon x.0) }
+    ensures counted { IfOk result (λ x. AreCounted bytes.now (canon_lists x.0) x.1.now) }
 {
     match byte(bytes)? {
         (0x00, rest) => {
@@ -110,7 +110,7 @@ fn lifted(bytes: &[u8]) -> Result<(CanonView<'_>, &[u8]), Refusal>
 fn lowered(bytes: &[u8]) -> Result<(CanonView<'_>, &[u8]), Refusal>
     ensures found { Gives (λ x. (canon_seen x.0, x.1.now)) result (read_lowered bytes.now) }
     ensures place { IsWithin (λ x. x.1.now) bytes.now result }
-    ensures counted { IfOk result (λ x. IsCountedCanon x.0) }
+    ensures counted { IfOk result (λ x. AreCounted bytes.now (canon_lists x.0) x.1.now) }
 {
     match byte(bytes)? {
         (0x00, rest) => {
@@ -128,7 +128,8 @@ fn ty_and_options(bytes: &[u8]) -> Result<(u32, ListOf<'_, CanonicalOption>, &[u
     ensures found { Gives (λ x. ((x.0, list_view read_canonical_option x.1), x.2.now)) result
         (read_ty_and_options bytes.now) }
     ensures place { IsWithin (λ x. x.2.now) bytes.now result }
-    ensures counted { IfOk result (λ x. IsCounted read_canonical_option x.1) }
+    ensures counted { IfOk result
+        (λ x. AreCounted bytes.now (place_of read_canonical_option x.1 ∷ []) x.2.now) }
 {
     let (ty, rest) = index(bytes)?;
     let (options, rest) = ListOf::view_of(rest)?;
@@ -231,7 +232,7 @@ fn function(opcode: u8, bytes: &[u8]) -> Result<(CanonView<'_>, &[u8]), Refusal>
     ensures found { Gives (λ x. (canon_seen x.0, x.1.now)) result
         (pick rows nowhere opcode bytes.now) }
     ensures place { IsWithin (λ x. x.1.now) (opcode ∷ bytes.now) result }
-    ensures counted { IfOk result (λ x. IsCountedCanon x.0) }
+    ensures counted { IfOk result (λ x. AreCounted bytes.now (canon_lists x.0) x.1.now) }
 {
     match opcode {
         0x00 => lifted(bytes),
@@ -256,7 +257,7 @@ fn of_stream(opcode: u8, bytes: &[u8]) -> Result<(CanonView<'_>, &[u8]), Refusal
     ensures found { Gives (λ x. (canon_seen x.0, x.1.now)) result
         (pick stream_rows nowhere opcode bytes.now) }
     ensures place { IsWithin (λ x. x.1.now) (opcode ∷ bytes.now) result }
-    ensures counted { IfOk result (λ x. IsCountedCanon x.0) }
+    ensures counted { IfOk result (λ x. AreCounted bytes.now (canon_lists x.0) x.1.now) }
 {
     match opcode {
         0x0e => indexed!(index(bytes), StreamNew),
@@ -276,7 +277,7 @@ fn of_future(opcode: u8, bytes: &[u8]) -> Result<(CanonView<'_>, &[u8]), Refusal
     ensures found { Gives (λ x. (canon_seen x.0, x.1.now)) result
         (pick future_rows nowhere opcode bytes.now) }
     ensures place { IsWithin (λ x. x.1.now) (opcode ∷ bytes.now) result }
-    ensures counted { IfOk result (λ x. IsCountedCanon x.0) }
+    ensures counted { IfOk result (λ x. AreCounted bytes.now (canon_lists x.0) x.1.now) }
 {
     match opcode {
         0x15 => indexed!(index(bytes), FutureNew),
@@ -297,7 +298,7 @@ fn of_error_context(opcode: u8, bytes: &[u8]) -> Result<(CanonView<'_>, &[u8]), 
     ensures found { Gives (λ x. (canon_seen x.0, x.1.now)) result
         (pick error_context_rows nowhere opcode bytes.now) }
     ensures place { IsWithin (λ x. x.1.now) (opcode ∷ bytes.now) result }
-    ensures counted { IfOk result (λ x. IsCountedCanon x.0) }
+    ensures counted { IfOk result (λ x. AreCounted bytes.now (canon_lists x.0) x.1.now) }
 {
     match opcode {
         0x1c => of_options!(bytes, ErrorContextNew),
@@ -320,7 +321,7 @@ fn of_thread(opcode: u8, bytes: &[u8]) -> Result<(CanonView<'_>, &[u8]), Refusal
     ensures found { Gives (λ x. (canon_seen x.0, x.1.now)) result
         (pick thread_rows nowhere opcode bytes.now) }
     ensures place { IsWithin (λ x. x.1.now) (opcode ∷ bytes.now) result }
-    ensures counted { IfOk result (λ x. IsCountedCanon x.0) }
+    ensures counted { IfOk result (λ x. AreCounted bytes.now (canon_lists x.0) x.1.now) }
 {
     match opcode {
         0x26 => plain!(bytes, ThreadIndex),
@@ -341,7 +342,7 @@ fn of_forward(opcode: u8, bytes: &[u8]) -> Result<(CanonView<'_>, &[u8]), Refusa
     ensures found { Gives (λ x. (canon_seen x.0, x.1.now)) result
         (pick forward_rows nowhere opcode bytes.now) }
     ensures place { IsWithin (λ x. x.1.now) (opcode ∷ bytes.now) result }
-    ensures counted { IfOk result (λ x. IsCountedCanon x.0) }
+    ensures counted { IfOk result (λ x. AreCounted bytes.now (canon_lists x.0) x.1.now) }
 {
     match opcode {
         0x2e => indexed!(index(bytes), StreamForward),
@@ -360,7 +361,7 @@ impl<'a> View<'a> for CanonView<'a> {
 
     ghost reading = { read_by canonical_sound canonical_lawful };
 
-    ghost is_counted = { IsCountedCanon };
+    ghost lists = { canon_lists };
 
     #[tactic(auto, unfolding(wenc_base::specs::Readers::choose))]
     fn view_of(bytes: &'a [u8]) -> Result<(CanonView<'a>, &'a [u8]), Refusal> {

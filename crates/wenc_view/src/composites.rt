@@ -1,7 +1,7 @@
 //! The types that core modules define, alone and in recursion groups.
 ghost use Rattle.std.specs.Prelude.{Some, false, true, IfOk};
 ghost use Rattle.wenc_view.specs.Prelude.{composite_seen, sub_seen, rec_type_seen};
-ghost use Rattle.wenc_view.specs.Prelude.{IsCountedComposite, IsCountedGroup};
+ghost use Rattle.wenc_view.specs.Prelude.{composite_lists, group_lists, AreCounted};
 ghost use Rattle.wenc_base.specs.Prelude.{read_closed, read_extension, sub_of, storage_type_sound};
 ghost use Rattle.wenc_base.specs.Prelude.{storage_type_lawful, field_type_sound, field_type_lawful};
 ghost use Rattle.wenc_base.specs.Prelude.{Composite, composite_type_sound, composite_type_lawful};
@@ -99,7 +99,7 @@ impl<'a> View<'a> for CompositeView<'a> {
 
     ghost reading = { read_by composite_type_sound composite_type_lawful };
 
-    ghost is_counted = { IsCountedComposite };
+    ghost lists = { composite_lists };
 
     #[tactic(auto, unfolding(wenc_base::specs::Readers::choose))]
     fn view_of(bytes: &'a [u8]) -> Result<(CompositeView<'a>, &'a [u8]), Refusal> {
@@ -131,7 +131,7 @@ impl<'a> View<'a> for SubView<'a> {
 
     ghost reading = { read_by sub_type_sound sub_type_lawful };
 
-    ghost is_counted = { λ s. IsCountedComposite s.composite_type };
+    ghost lists = { λ s. composite_lists s.composite_type };
 
     #[tactic(auto, unfolding(wenc_base::specs::Readers::choose))]
     fn view_of(bytes: &'a [u8]) -> Result<(SubView<'a>, &'a [u8]), Refusal> {
@@ -158,7 +158,8 @@ pub(crate) fn open(bytes: &[u8]) -> Result<(SubView<'_>, &[u8]), Refusal>
     ensures found { Gives (λ x. (sub_seen x.0, x.1.now)) result
         (read_extension (λ n c. sub_of false n c) bytes.now) }
     ensures place { IsWithin (λ x. x.1.now) bytes.now result }
-    ensures counted { IfOk result (λ x. IsCountedComposite x.0.composite_type) }
+    ensures counted { IfOk result
+        (λ x. AreCounted bytes.now (composite_lists x.0.composite_type) x.1.now) }
 {
     let (supertype_idx, rest) = Option::view_of(bytes)?;
     let (composite_type, rest) = CompositeView::view_of(rest)?;
@@ -176,7 +177,8 @@ fn closed(bytes: &[u8]) -> Result<(SubView<'_>, &[u8]), Refusal>
     ensures found { Gives (λ x. (sub_seen x.0, x.1.now)) result
         (read_closed (λ n c. sub_of true (Some n) c) bytes.now) }
     ensures place { IsWithin (λ x. x.1.now) bytes.now result }
-    ensures counted { IfOk result (λ x. IsCountedComposite x.0.composite_type) }
+    ensures counted { IfOk result
+        (λ x. AreCounted bytes.now (composite_lists x.0.composite_type) x.1.now) }
 {
     match byte(bytes)? {
         (0x01, rest) => {
@@ -200,7 +202,7 @@ impl<'a> View<'a> for GroupView<'a> {
 
     ghost reading = { read_by group_sound group_lawful };
 
-    ghost is_counted = { IsCountedGroup };
+    ghost lists = { group_lists };
 
     #[tactic(auto, unfolding(wenc_base::specs::Readers::choose))]
     fn view_of(bytes: &'a [u8]) -> Result<(GroupView<'a>, &'a [u8]), Refusal> {

@@ -1,6 +1,7 @@
 //! Core types in a component: recursion groups with guards, and module types.
 ghost use Rattle.std.specs.Prelude.{IfOk};
-ghost use Rattle.wenc_view.specs.Prelude.{read_guarded, IsCountedModuleDecl, IsCountedCoreType};
+ghost use Rattle.wenc_view.specs.Prelude.{read_guarded, module_declaration_lists, core_type_lists};
+ghost use Rattle.wenc_view.specs.Prelude.{AreCounted};
 ghost use Rattle.wenc_view.specs.Prelude.{module_declaration_seen, core_type_seen};
 ghost use Rattle.wenc_read.specs.Prelude.{Gives, IsWithin, read_by};
 ghost use Rattle.wenc_types.specs.Prelude.{read_outer_type, ModuleDeclaration};
@@ -58,7 +59,8 @@ fn outer_type(bytes: &[u8]) -> Result<(ModuleDeclView<'_>, &[u8]), Refusal>
     ensures found { Gives (λ x. (module_declaration_seen x.0, x.1.now)) result
         (read_outer_type (λ d. d) bytes.now) }
     ensures place { IsWithin (λ x. x.1.now) bytes.now result }
-    ensures counted { IfOk result (λ x. IsCountedModuleDecl x.0) }
+    ensures counted { IfOk result
+        (λ x. AreCounted bytes.now (module_declaration_lists x.0) x.1.now) }
 {
     match byte(bytes)? {
         (0x10, rest) => match byte(rest)? {
@@ -80,7 +82,7 @@ impl<'a> View<'a> for ModuleDeclView<'a> {
 
     ghost reading = { read_by module_declaration_sound module_declaration_lawful };
 
-    ghost is_counted = { IsCountedModuleDecl };
+    ghost lists = { module_declaration_lists };
 
     #[tactic(auto, unfolding(wenc_base::specs::Readers::choose))]
     fn view_of(bytes: &'a [u8]) -> Result<(ModuleDeclView<'a>, &'a [u8]), Refusal> {
@@ -112,7 +114,7 @@ fn guarded(bytes: &[u8]) -> Result<(CoreTypeView<'_>, &[u8]), Refusal>
     ensures found { Gives (λ x. (core_type_seen x.0, x.1.now)) result
         (read_guarded bytes.now) }
     ensures place { IsWithin (λ x. x.1.now) bytes.now result }
-    ensures counted { IfOk result (λ x. IsCountedCoreType x.0) }
+    ensures counted { IfOk result (λ x. AreCounted bytes.now (core_type_lists x.0) x.1.now) }
 {
     match byte(bytes)? {
         (0x50, rest) => {
@@ -130,7 +132,7 @@ impl<'a> View<'a> for CoreTypeView<'a> {
 
     ghost reading = { read_by core_type_sound core_type_lawful };
 
-    ghost is_counted = { IsCountedCoreType };
+    ghost lists = { core_type_lists };
 
     #[tactic(auto, unfolding(wenc_base::specs::Readers::choose))]
     fn view_of(bytes: &'a [u8]) -> Result<(CoreTypeView<'a>, &'a [u8]), Refusal> {

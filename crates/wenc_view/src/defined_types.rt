@@ -6,7 +6,8 @@ ghost use Rattle.wenc_types.specs.Prelude.{LabelledType, named_sound, labelled_t
 ghost use Rattle.wenc_types.specs.Prelude.{case_sound, case_lawful, DefValType};
 ghost use Rattle.wenc_types.specs.Prelude.{defined_type_lawful};
 ghost use Rattle.wenc_view.specs.Prelude.{labelled_seen, case_seen, defined_seen, read_defined_row};
-ghost use Rattle.wenc_view.specs.Prelude.{handle_rows, defined_sound, IsCountedDefined};
+ghost use Rattle.wenc_view.specs.Prelude.{handle_rows, defined_sound, defined_lists};
+ghost use Rattle.wenc_view.specs.Prelude.{AreCounted};
 
 use crate::list_of::ListOf;
 use crate::value_types::primitive_of;
@@ -113,7 +114,7 @@ fn defined(first: u8, bytes: &[u8]) -> Result<(DefinedView<'_>, &[u8]), Refusal>
     ensures found { Gives (λ x. (defined_seen x.0, x.1.now)) result
         (read_defined_row first bytes.now) }
     ensures place { IsWithin (λ x. x.1.now) (first ∷ bytes.now) result }
-    ensures counted { IfOk result (λ x. IsCountedDefined x.0) }
+    ensures counted { IfOk result (λ x. AreCounted bytes.now (defined_lists x.0) x.1.now) }
 {
     match first {
         0x72 => {
@@ -159,7 +160,7 @@ fn other_defined(first: u8, bytes: &[u8]) -> Result<(DefinedView<'_>, &[u8]), Re
     ensures found { Gives (λ x. (defined_seen x.0, x.1.now)) result
         (pick handle_rows nowhere first bytes.now) }
     ensures place { IsWithin (λ x. x.1.now) (first ∷ bytes.now) result }
-    ensures counted { IfOk result (λ x. IsCountedDefined x.0) }
+    ensures counted { IfOk result (λ x. AreCounted bytes.now (defined_lists x.0) x.1.now) }
 {
     match first {
         0x69 => {
@@ -199,7 +200,7 @@ impl<'a> View<'a> for DefinedView<'a> {
 
     ghost reading = { read_by defined_sound defined_type_lawful };
 
-    ghost is_counted = { IsCountedDefined };
+    ghost lists = { defined_lists };
 
     fn view_of(bytes: &'a [u8]) -> Result<(DefinedView<'a>, &'a [u8]), Refusal> {
         let (first, rest) = byte(bytes)?;

@@ -3,7 +3,7 @@ ghost use Rattle.std.specs.Prelude.{ℕ, List};
 ghost use Rattle.wenc_base.specs.Prelude.{name_sound, name_lawful, core_export_kind_sound};
 ghost use Rattle.wenc_base.specs.Prelude.{core_export_kind_lawful, u32_sound, u32_lawful};
 ghost use Rattle.wenc_view.specs.Prelude.{ModuleArg as Value', core_instance_seen, instance_seen};
-ghost use Rattle.wenc_view.specs.Prelude.{name_seen, IsCountedCoreInstance, IsCountedInstance};
+ghost use Rattle.wenc_view.specs.Prelude.{name_seen, core_instance_lists, instance_lists};
 ghost use Rattle.wenc_parts.specs.Prelude.{module_argument_sound, module_argument_lawful};
 ghost use Rattle.wenc_parts.specs.Prelude.{component_export_kind_sound};
 ghost use Rattle.wenc_parts.specs.Prelude.{component_export_kind_lawful, ExternName};
@@ -110,7 +110,7 @@ impl<'a> View<'a> for CoreInstanceView<'a> {
 
     ghost reading = { read_by core_instance_sound core_instance_lawful };
 
-    ghost is_counted = { IsCountedCoreInstance };
+    ghost lists = { core_instance_lists };
 
     #[tactic(auto, unfolding(wenc_base::specs::Readers::choose))]
     #[inline(always)]
@@ -179,7 +179,7 @@ impl<'a> View<'a> for InstanceView<'a> {
 
     ghost reading = { read_by instance_sound instance_lawful };
 
-    ghost is_counted = { IsCountedInstance };
+    ghost lists = { instance_lists };
 
     #[tactic(auto, unfolding(wenc_base::specs::Readers::choose))]
     fn view_of(bytes: &'a [u8]) -> Result<(InstanceView<'a>, &'a [u8]), Refusal> {

@@ -1,9 +1,10 @@
 //! Lists that are read on demand.
-ghost use Rattle.std.specs.Prelude.{◌≡◌, ◌+◌, List, IfSome, MatchOption};
+ghost use Rattle.std.specs.Prelude.{◌≡◌, ◌+◌, List, [], ◌∷◌, Ok, MatchOption};
 ghost use Rattle.std.specs.Iterator.{at_most};
 ghost use Rattle.wenc_base.specs.Prelude.{times, list};
 ghost use Rattle.wenc_read.specs.Prelude.{Gives, reading_list, IsWithin};
-ghost use Rattle.wenc_view.specs.Prelude.{members_of, list_view, GivesFirst, IsCounted};
+ghost use Rattle.wenc_view.specs.Prelude.{members_of, list_view, GivesFirst, AreCounted};
+ghost use Rattle.wenc_view.specs.Prelude.{place_of};
 
 use crate::view::View;
 use std::marker::PhantomData;
@@ -44,7 +45,7 @@ impl<'a, T: View<'a>> View<'a> for ListOf<'a, T> {
 
     ghost reading = { reading_list T.reading };
 
-    ghost is_counted = { λ l. IsCounted T.reading.read l };
+    ghost lists = { λ l. place_of T.reading.read l ∷ [] };
 
     fn view_of(bytes: &'a [u8]) -> Result<(ListOf<'a, T>, &'a [u8]), Refusal> {
         let (left, start) = u32_of(bytes)?;
@@ -64,7 +65,9 @@ impl<'a, T: View<'a>> Iterator for ListOf<'a, T> {
     ghost remaining = { λ l. at_most l.left };
 
     ghost next_gives = { λ a r b. GivesFirst T.view (list_view T.reading.read a) r (list_view T.reading.read b)
-        × IfSome r T.is_counted × MatchOption r (b ≡ a) (λ _. a.left ≡ b.left + 1) };
+        × MatchOption r (b ≡ a) (λ x. (a.left ≡ b.left + 1)
+        × (T.reading.read a.bytes.now ≡ Ok (T.view x, b.bytes.now))
+        × AreCounted a.bytes.now (T.lists x) b.bytes.now) };
 
     #[inline]
     fn next(&mut self) -> Option<T> {

@@ -1,6 +1,6 @@
 //! Types that components define, in place. Component types and instance types nest, down to a
 //! depth.
-ghost use Rattle.std.specs.Prelude.{◌∷◌, ◌≡◌, ◌+◌, ◌≤◌, IfOk, IfSome, MatchOption};
+ghost use Rattle.std.specs.Prelude.{◌∷◌, ◌≡◌, ◌+◌, ◌<◌, ◌≤◌, Ok, IfOk, IfSome, MatchOption};
 ghost use Rattle.wenc_base.specs.Prelude.{times};
 ghost use Rattle.wenc_read.specs.Prelude.{Gives, IsWithin, IsWithinNested};
 ghost use Rattle.wenc_types.specs.Prelude.{read_imported, read_exported};
@@ -11,8 +11,8 @@ ghost use Rattle.wenc_view.specs.Prelude.{GivesNested, GivesFirst, members_of, t
 ghost use Rattle.wenc_view.specs.Prelude.{instance_declaration_seen, component_declaration_seen};
 ghost use Rattle.wenc_view.specs.Prelude.{component_members, instance_members, type_nests};
 ghost use Rattle.wenc_view.specs.Prelude.{instance_declaration_nests, component_declaration_nests};
-ghost use Rattle.wenc_view.specs.Prelude.{IsCountedType, IsCountedInstanceDecl};
-ghost use Rattle.wenc_view.specs.Prelude.{IsCountedComponentDecl};
+ghost use Rattle.wenc_view.specs.Prelude.{type_lists, instance_declaration_lists};
+ghost use Rattle.wenc_view.specs.Prelude.{component_declaration_lists, AreCounted};
 
 use crate::core_type_views::CoreTypeView;
 use crate::defined_types::DefinedView;
@@ -112,7 +112,7 @@ fn function_type(is_async: bool, bytes: &[u8]) -> Result<(TypeView<'_>, &[u8]), 
         (read_signature is_async FunctionType bytes.now) }
     ensures place { IsWithin (λ x. x.1.now) bytes.now result }
     ensures flat { IfOk result (λ x. type_nests x.0 ≡ 0) }
-    ensures counted { IfOk result (λ x. IsCountedType x.0) }
+    ensures counted { IfOk result (λ x. AreCounted bytes.now (type_lists x.0) x.1.now) }
 {
     let (params, rest) = ListOf::view_of(bytes)?;
     let (answer, rest) = ResultList::view_of(rest)?;
@@ -130,7 +130,7 @@ fn resource_type(bytes: &[u8]) -> Result<(TypeView<'_>, &[u8]), Refusal>
         (read_resource_type bytes.now) }
     ensures place { IsWithin (λ x. x.1.now) bytes.now result }
     ensures flat { IfOk result (λ x. type_nests x.0 ≡ 0) }
-    ensures counted { IfOk result (λ x. IsCountedType x.0) }
+    ensures counted { IfOk result (λ x. AreCounted bytes.now (type_lists x.0) x.1.now) }
 {
     let (rep, rest) = ValType::view_of(bytes)?;
     let (dtor, rest) = Option::view_of(rest)?;
@@ -154,7 +154,8 @@ pub fn type_at<'a>(
         (read_type depth_left bytes.now) }
     ensures place { IsWithinNested (λ x. x.1.now) bytes.now result }
     ensures within { IfOk result (λ x. type_nests x.0 ≤ depth_left) }
-    ensures counted { IfOk result (λ x. IsCountedType x.0) }
+    ensures deep { IfOk result (λ x. 0 < type_nests x.0 → type_nests x.0 ≡ depth_left) }
+    ensures counted { IfOk result (λ x. AreCounted bytes.now (type_lists x.0) x.1.now) }
 {
     match byte(bytes)? {
         (0x41, rest) => component_type(depth_left, rest),
@@ -179,7 +180,8 @@ fn component_type<'a>(
         (read_component_type depth_left bytes.now) }
     ensures place { IsWithinNested (λ x. x.1.now) (0x41 ∷ bytes.now) result }
     ensures within { IfOk result (λ x. type_nests x.0 ≤ depth_left) }
-    ensures counted { IfOk result (λ x. IsCountedType x.0) }
+    ensures deep { IfOk result (λ x. 0 < type_nests x.0 → type_nests x.0 ≡ depth_left) }
+    ensures counted { IfOk result (λ x. AreCounted bytes.now (type_lists x.0) x.1.now) }
 {
     if depth_left == 0 {
         return Err(NestedRefusal::TooDeep(bytes.len().saturating_add(1)));
@@ -205,7 +207,8 @@ fn instance_type<'a>(
         (read_instance_type depth_left bytes.now) }
     ensures place { IsWithinNested (λ x. x.1.now) (0x42 ∷ bytes.now) result }
     ensures within { IfOk result (λ x. type_nests x.0 ≤ depth_left) }
-    ensures counted { IfOk result (λ x. IsCountedType x.0) }
+    ensures deep { IfOk result (λ x. 0 < type_nests x.0 → type_nests x.0 ≡ depth_left) }
+    ensures counted { IfOk result (λ x. AreCounted bytes.now (type_lists x.0) x.1.now) }
 {
     if depth_left == 0 {
         return Err(NestedRefusal::TooDeep(bytes.len().saturating_add(1)));
@@ -282,7 +285,10 @@ fn component_decl<'a>(
         (read_component_declaration (read_type depth_left) bytes.now) }
     ensures place { IsWithinNested (λ x. x.1.now) bytes.now result }
     ensures within { IfOk result (λ x. component_declaration_nests x.0 ≤ depth_left) }
-    ensures counted { IfOk result (λ x. IsCountedComponentDecl x.0) }
+    ensures deep { IfOk result
+        (λ x. 0 < component_declaration_nests x.0 → component_declaration_nests x.0 ≡ depth_left) }
+    ensures counted { IfOk result
+        (λ x. AreCounted bytes.now (component_declaration_lists x.0) x.1.now) }
 {
     match byte(bytes)? {
         (0x03, rest) => Ok(imported(rest)?),
@@ -304,7 +310,10 @@ fn instance_decl<'a>(
         (read_instance_declaration (read_type depth_left) bytes.now) }
     ensures place { IsWithinNested (λ x. x.1.now) bytes.now result }
     ensures within { IfOk result (λ x. instance_declaration_nests x.0 ≤ depth_left) }
-    ensures counted { IfOk result (λ x. IsCountedInstanceDecl x.0) }
+    ensures deep { IfOk result
+        (λ x. 0 < instance_declaration_nests x.0 → instance_declaration_nests x.0 ≡ depth_left) }
+    ensures counted { IfOk result
+        (λ x. AreCounted bytes.now (instance_declaration_lists x.0) x.1.now) }
 {
     match byte(bytes)? {
         (0x00, rest) => {
@@ -330,7 +339,8 @@ fn imported(bytes: &[u8]) -> Result<(ComponentDeclView<'_>, &[u8]), Refusal>
         (read_imported bytes.now) }
     ensures place { IsWithin (λ x. x.1.now) bytes.now result }
     ensures flat { IfOk result (λ x. component_declaration_nests x.0 ≡ 0) }
-    ensures counted { IfOk result (λ x. IsCountedComponentDecl x.0) }
+    ensures counted { IfOk result
+        (λ x. AreCounted bytes.now (component_declaration_lists x.0) x.1.now) }
 {
     let (name, ty, rest) = both(bytes)?;
     Ok((ComponentDeclView::Import { name, ty }, rest))
@@ -342,7 +352,8 @@ fn exported(bytes: &[u8]) -> Result<(InstanceDeclView<'_>, &[u8]), Refusal>
         (read_exported bytes.now) }
     ensures place { IsWithin (λ x. x.1.now) bytes.now result }
     ensures flat { IfOk result (λ x. instance_declaration_nests x.0 ≡ 0) }
-    ensures counted { IfOk result (λ x. IsCountedInstanceDecl x.0) }
+    ensures counted { IfOk result
+        (λ x. AreCounted bytes.now (instance_declaration_lists x.0) x.1.now) }
 {
     let (name, ty, rest) = both(bytes)?;
     Ok((InstanceDeclView::Export { name, ty }, rest))
@@ -357,8 +368,12 @@ impl<'a> Iterator for ComponentDecls<'a> {
 
     ghost next_gives = { λ a r b. GivesFirst component_declaration_seen (component_members a) r
         (component_members b) × IfSome r (λ d. component_declaration_nests d ≤ a.depth_left)
-        × (b.depth_left ≡ a.depth_left) × IfSome r IsCountedComponentDecl
-        × MatchOption r (b ≡ a) (λ _. a.left ≡ b.left + 1) };
+        × (b.depth_left ≡ a.depth_left)
+        × MatchOption r (b ≡ a) (λ d. (a.left ≡ b.left + 1)
+        × (read_component_declaration (read_type a.depth_left) a.bytes.now
+        ≡ Ok (component_declaration_seen d, b.bytes.now))
+        × AreCounted a.bytes.now (component_declaration_lists d) b.bytes.now
+        × (0 < component_declaration_nests d → component_declaration_nests d ≡ a.depth_left)) };
 
     fn next(&mut self) -> Option<ComponentDeclView<'a>> {
         if self.left == 0 {
@@ -384,8 +399,12 @@ impl<'a> Iterator for InstanceDecls<'a> {
 
     ghost next_gives = { λ a r b. GivesFirst instance_declaration_seen (instance_members a) r
         (instance_members b) × IfSome r (λ d. instance_declaration_nests d ≤ a.depth_left)
-        × (b.depth_left ≡ a.depth_left) × IfSome r IsCountedInstanceDecl
-        × MatchOption r (b ≡ a) (λ _. a.left ≡ b.left + 1) };
+        × (b.depth_left ≡ a.depth_left)
+        × MatchOption r (b ≡ a) (λ d. (a.left ≡ b.left + 1)
+        × (read_instance_declaration (read_type a.depth_left) a.bytes.now
+        ≡ Ok (instance_declaration_seen d, b.bytes.now))
+        × AreCounted a.bytes.now (instance_declaration_lists d) b.bytes.now
+        × (0 < instance_declaration_nests d → instance_declaration_nests d ≡ a.depth_left)) };
 
     fn next(&mut self) -> Option<InstanceDeclView<'a>> {
         if self.left == 0 {

@@ -1,11 +1,11 @@
 //! The trait `View`, and the parts of every form.
-ghost use Rattle.std.specs.Prelude.{◌≡◌, ◌+◌, ◌-◌, ⊤, length, IfOk, IfErr};
+ghost use Rattle.std.specs.Prelude.{◌≡◌, ◌+◌, ◌-◌, List, [], length, IfOk, IfErr};
 ghost use Rattle.std.specs.Str.{valid_up_to};
 ghost use Rattle.wenc_base.specs.Prelude.{u32_sound, u32_lawful, read_name, name_sound};
 ghost use Rattle.wenc_base.specs.Prelude.{name_lawful};
 ghost use Rattle.wenc_read.specs.Prelude.{Gives, IsWithin, read_by, reading_option, Reading};
 ghost use Rattle.wenc_read.specs.declared.expected.Expected.TheVariants.{Utf8};
-ghost use Rattle.wenc_view.specs.Prelude.{name_error};
+ghost use Rattle.wenc_view.specs.Prelude.{name_error, AreCounted, Place};
 
 use std::str::Utf8Error;
 use wenc_read::{Expected, Refusal, byte, flag_of, u32_of};
@@ -30,8 +30,9 @@ pub trait View<'a>: Sized + Copy {
     /// The reader that finds the value: what is read widely as its form, and nothing else.
     ghost reading: { Reading Value };
 
-    /// Each list in it has as many members as it says.
-    ghost is_counted: { Self → Type 0 } = { λ _. ⊤ };
+    /// Where its lists are: in the bytes, one behind the other, each behind its count and with as
+    /// many members.
+    ghost lists: { Self → List Place } = { λ _. [] };
 
     /// Reads the value that begins the bytes, in any of its spellings. Returns it and the bytes
     /// after it.
@@ -42,7 +43,7 @@ pub trait View<'a>: Sized + Copy {
     fn view_of(bytes: &'a [u8]) -> Result<(Self, &'a [u8]), Refusal>
         ensures found { Gives (λ x. (view x.0, x.1.now)) result (reading.read bytes.now) }
         ensures place { IsWithin (λ x. x.1.now) bytes.now result }
-        ensures counted { IfOk result (λ x. is_counted x.0) };
+        ensures counted { IfOk result (λ x. AreCounted bytes.now (lists x.0) x.1.now) };
 }
 
 impl<'a> View<'a> for u32 {
@@ -101,7 +102,7 @@ pub fn text_of(bytes: &[u8]) -> Result<(&str, &[u8]), Refusal>
 }
 
 impl<'a> View<'a> for &'a str {
-    ghost use Rattle.std.specs.Prelude.{ℕ, List};
+    ghost use Rattle.std.specs.Prelude.{ℕ};
 
     ghost Value = { List ℕ };
 
@@ -117,7 +118,8 @@ impl<'a> View<'a> for &'a str {
 
 /// An option: a byte `00`, or a byte `01` and a value.
 impl<'a, T: View<'a>> View<'a> for Option<T> {
-    ghost use Rattle.std.specs.Prelude.{IfSome, Option as OptionOf, option_map};
+    ghost use Rattle.std.specs.Prelude.{Option as OptionOf, option_map};
+    ghost use Rattle.std.specs.Option.{option_map_or};
     ghost use Rattle.wenc_read.specs.Prelude.{reading_option};
 
     ghost Value = { OptionOf T.Value };
@@ -126,7 +128,7 @@ impl<'a, T: View<'a>> View<'a> for Option<T> {
 
     ghost reading = { reading_option T.reading };
 
-    ghost is_counted = { λ o. IfSome o T.is_counted };
+    ghost lists = { λ o. option_map_or T.lists o [] };
 
     #[tactic(auto, unfolding(wenc_base::specs::Readers::choose))]
     fn view_of(bytes: &'a [u8]) -> Result<(Option<T>, &'a [u8]), Refusal> {

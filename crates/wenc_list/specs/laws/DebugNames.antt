@@ -58,7 +58,7 @@ core_sort_sound = choose_tells _ _ (
   ),
 ) nowhere_tells
 
-sort_sound : Sound item_sort read_sort
+pub sort_sound : Sound item_sort read_sort
 sort_sound = choose_tells _ _ (
   core_sort_sound,
   (

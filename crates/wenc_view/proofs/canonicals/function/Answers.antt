@@ -1,4 +1,9 @@
 use Rattle.std.proofs.Common.{refl}
+use Rattle.std.proofs.Common.{[], ◌∷◌}
+use Rattle.wenc_canon.specs.Prelude.{read_canonical_option}
+use Rattle.wenc_parts.specs.Prelude.{result_list_lawful, result_list_sound}
+use Rattle.wenc_view.specs.Members.{place_of}
+use Rattle.wenc_view.specs.laws.Lists.{behind}
 use Rattle.wenc_view.proofs.canonicals.function.Goals as goal
 
 pub returns-in_ok-index-in-2-clause-found : goal.returns-in_ok-index-in-2-clause-found
@@ -30,3 +35,8 @@ returns-in_ok-rest-in-12-clause-found c = rw (c.in-12.is, c.in_ok-rest-in-12.ens
 
 pub returns-in-13-clause-found : goal.returns-in-13-clause-found
 returns-in-13-clause-found c = rw c.in-13.is refl
+
+pub returns-in_ok-options-in-9-clause-counted : goal.returns-in_ok-options-in-9-clause-counted
+returns-in_ok-options-in-9-clause-counted c =
+    behind result_list_sound result_list_lawful _ _ _ (place_of read_canonical_option c.in_ok-options-in-9.options ∷ []) _ c.in_ok-ty-in-9.ensures.found
+    c.in_ok-options-in-9.ensures.counted

@@ -5,12 +5,15 @@ use Rattle.wenc_read.specs.laws.Tables.{past_rows}
 use Rattle.wenc_types.specs.Prelude.{DefinedType, one_level, read_component_declaration}
 use Rattle.wenc_types.specs.Prelude.{read_component_type, read_defined, read_instance_declaration}
 use Rattle.wenc_types.specs.Prelude.{read_instance_type, read_shallow, read_type, type_rows}
-use Rattle.wenc_view.specs.Prelude.{are_counted, at_start, component_declaration_seen}
+use Rattle.wenc_view.specs.Prelude.{at_start, component_declaration_seen, list_counted}
 use Rattle.wenc_view.specs.Prelude.{instance_declaration_seen, is_done, members_are, stops}
 use Rattle.wenc_view.specs.Prelude.{times_go_on}
 use Rattle.wenc_read.specs.Prelude.{fails_on, flaw_of}
 use Rattle.wenc_view.proofs.Nested.{component_found, component_fails, instance_found}
 use Rattle.wenc_view.proofs.Nested.{instance_fails, shallow_ok}
+use Rattle.wenc_view.specs.CoreTypes.{core_type_lists}
+use Rattle.wenc_view.specs.TypeViews.{instance_declaration_lists, type_lists}
+use Rattle.wenc_view.specs.laws.Lists.{behind_byte, if_behind_byte}
 use Rattle.wenc_view.proofs.type_views.+types.Goals as goal
 
 pub instance_decls-loop-init : goal.instance_decls-loop-init
@@ -47,7 +50,8 @@ instance_type-returns-in_err-rest-clause-found t c =
 
 pub instance_type-returns-clause-counted : goal.instance_type-returns-clause-counted
 instance_type-returns-clause-counted t c =
-    are_counted (read_instance_declaration (read_type (c.args.depth_left - 1))) c.in_ok-left.left c.in_ok-left.start.now _ c.in_ok-rest.rest.now c.in_ok-rest.ensures.found
+    list_counted (read_instance_declaration (read_type (c.args.depth_left - 1))) c.in_ok-left.left c.args.bytes.now c.in_ok-left.start.now _ c.in_ok-rest.rest.now
+    c.in_ok-left.ensures.found c.in_ok-rest.ensures.found
 
 pub instance_type-returns-clause-found : goal.instance_type-returns-clause-found
 instance_type-returns-clause-found t c = instance_found c.args.depth_left c.in_ok-left.left c.args.bytes.now c.in_ok-left.start.now c.in_ok-rest.rest.now _
@@ -87,7 +91,8 @@ component_type-returns-in_err-rest-clause-found t c =
 
 pub component_type-returns-clause-counted : goal.component_type-returns-clause-counted
 component_type-returns-clause-counted t c =
-    are_counted (read_component_declaration (read_type (c.args.depth_left - 1))) c.in_ok-left.left c.in_ok-left.start.now _ c.in_ok-rest.rest.now c.in_ok-rest.ensures.found
+    list_counted (read_component_declaration (read_type (c.args.depth_left - 1))) c.in_ok-left.left c.args.bytes.now c.in_ok-left.start.now _ c.in_ok-rest.rest.now
+    c.in_ok-left.ensures.found c.in_ok-rest.ensures.found
 
 pub component_type-returns-clause-found : goal.component_type-returns-clause-found
 component_type-returns-clause-found t c = component_found c.args.depth_left c.in_ok-left.left c.args.bytes.now c.in_ok-left.start.now c.in_ok-rest.rest.now _
@@ -113,3 +118,27 @@ type_at-returns-in_err-ty-in_default-clause-found t c =
           _ _ _ c.in_ok-rest.ensures.found (search rules, (search rules, (search rules, (search rules, (search rules, tt))))),
     )
     (fails_on Bad (read_defined c.args.bytes.now) (λ ty. give (DefinedType ty)) c.in_err-ty-in_default.ensures.found)
+
+pub type_at-returns-in-65-default-clause-counted : goal.type_at-returns-in-65-default-clause-counted
+type_at-returns-in-65-default-clause-counted t c = if_behind_byte (λ x. type_lists x.0) (λ x. x.1.now) _ _ _ c.component_type.result c.in_ok-rest.ensures.found c.component_type.ensures.counted
+
+pub type_at-returns-in-66-default-clause-counted : goal.type_at-returns-in-66-default-clause-counted
+type_at-returns-in-66-default-clause-counted t c = if_behind_byte (λ x. type_lists x.0) (λ x. x.1.now) _ _ _ c.instance_type.result c.in_ok-rest.ensures.found c.instance_type.ensures.counted
+
+pub type_at-returns-in_ok-function_type-in-64-default-clause-counted : goal.type_at-returns-in_ok-function_type-in-64-default-clause-counted
+type_at-returns-in_ok-function_type-in-64-default-clause-counted t c = behind_byte _ _ _ (type_lists c.in_ok-function_type-in-64-default.field-0.0) _ c.in_ok-rest.ensures.found c.in_ok-function_type-in-64-default.ensures.counted
+
+pub type_at-returns-in_ok-function_type-in-67-default-clause-counted : goal.type_at-returns-in_ok-function_type-in-67-default-clause-counted
+type_at-returns-in_ok-function_type-in-67-default-clause-counted t c = behind_byte _ _ _ (type_lists c.in_ok-function_type-in-67-default.field-0.0) _ c.in_ok-rest.ensures.found c.in_ok-function_type-in-67-default.ensures.counted
+
+pub type_at-returns-in_ok-resource_type-in-63-default-clause-counted : goal.type_at-returns-in_ok-resource_type-in-63-default-clause-counted
+type_at-returns-in_ok-resource_type-in-63-default-clause-counted t c = behind_byte _ _ _ (type_lists c.in_ok-resource_type-in-63-default.field-0.0) _ c.in_ok-rest.ensures.found c.in_ok-resource_type-in-63-default.ensures.counted
+
+pub instance_decl-returns-in_ok-ty-in-0-default-clause-counted : goal.instance_decl-returns-in_ok-ty-in-0-default-clause-counted
+instance_decl-returns-in_ok-ty-in-0-default-clause-counted t c = behind_byte _ _ _ (core_type_lists c.in_ok-ty-in-0-default.ty) _ c.in_ok-rest.ensures.found c.in_ok-ty-in-0-default.ensures.counted
+
+pub instance_decl-returns-in_ok-ty-in-1-default-clause-counted : goal.instance_decl-returns-in_ok-ty-in-1-default-clause-counted
+instance_decl-returns-in_ok-ty-in-1-default-clause-counted t c = behind_byte _ _ _ (type_lists c.in_ok-ty-in-1-default.ty) _ c.in_ok-rest.ensures.found c.in_ok-ty-in-1-default.ensures.counted
+
+pub instance_decl-returns-in_ok-exported-in-4-default-clause-counted : goal.instance_decl-returns-in_ok-exported-in-4-default-clause-counted
+instance_decl-returns-in_ok-exported-in-4-default-clause-counted t c = behind_byte _ _ _ (instance_declaration_lists c.in_ok-exported-in-4-default.field-0.0) _ c.in_ok-rest.ensures.found c.in_ok-exported-in-4-default.ensures.counted

@@ -20,4 +20,8 @@ returns-clause-taken c =
 pub returns-in_err-item-clause-fault : goal.returns-in_err-item-clause-fault
 returns-in_err-item-clause-fault c =
     let p = err_from_is_err_and c.from_residual.result c.from_residual.ensures.1 in
-    rw (p.1, p.2) (next_fault c.args.self.now c.in_err-item.field-0.0 c.if-self-eq0.false c.are_bytes.ensures c.in_err-item.ensures.found)
+    rw (p.1, p.2) (record {
+      cause = next_fault c.args.self.now c.in_err-item.field-0.0 c.if-self-eq0.false c.are_bytes.ensures c.in_err-item.ensures.found;
+      at_end = λ e. absurd (c.if-self-eq0.false e);
+      within = c.in_err-item.ensures.place;
+    })

@@ -4,6 +4,8 @@ use Rattle.wenc_base.specs.Prelude.{read_composite, read_extension, sub_of, sub_
 use Rattle.wenc_read.specs.Prelude.{at_first, fails_on}
 use Rattle.wenc_view.proofs.Rows.{wraps}
 use Rattle.wenc_view.proofs.SubTypes.{composites_follow}
+use Rattle.wenc_view.specs.CoreTypes.{composite_lists}
+use Rattle.wenc_view.specs.laws.Lists.{if_behind_byte}
 use Rattle.wenc_view.proofs.composites.SubViewView.view_of.Goals as goal
 
 pub returns-in-Ok-clause-found : goal.returns-in-Ok-clause-found
@@ -27,3 +29,9 @@ returns-in-Err-clause-found c =
     ) ∷ []) (composites_follow final (λ d. d)) _ _ _ c.in_ok-rest.ensures.found (search rules))
     (fails_on Bad (read_composite c.args.bytes.now)
     (λ d. give (final d)) c.in-Err.ensures.found)
+
+pub returns-in-80-default-clause-counted : goal.returns-in-80-default-clause-counted
+returns-in-80-default-clause-counted c = if_behind_byte (λ x. composite_lists x.0.composite_type) (λ x. x.1.now) _ _ _ c.open.result c.in_ok-rest.ensures.found c.open.ensures.counted
+
+pub returns-in-79-default-clause-counted : goal.returns-in-79-default-clause-counted
+returns-in-79-default-clause-counted c = if_behind_byte (λ x. composite_lists x.0.composite_type) (λ x. x.1.now) _ _ _ c.closed.result c.in_ok-rest.ensures.found c.closed.ensures.counted
