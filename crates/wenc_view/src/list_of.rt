@@ -64,7 +64,8 @@ impl<'a, T: View<'a>> Iterator for ListOf<'a, T> {
 
     ghost remaining = { λ l. at_most l.left };
 
-    ghost next_gives = { λ a r b. GivesFirst T.view (list_view T.reading.read a) r (list_view T.reading.read b)
+    ghost next_gives = { λ a r b.
+        GivesFirst T.view (list_view T.reading.read a) r (list_view T.reading.read b)
         × MatchOption r (b ≡ a) (λ x. (a.left ≡ b.left + 1)
         × (T.reading.read a.bytes.now ≡ Ok (T.view x, b.bytes.now))
         × AreCounted a.bytes.now (T.lists x) b.bytes.now) };
