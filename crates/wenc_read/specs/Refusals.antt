@@ -31,7 +31,8 @@ abbrev pub number_error : ℕ → ℕ → List ℕ → ℕ → List ℕ → Refu
 number_error top bits whole room [] = byte_error []
 number_error top bits whole zero (b ∷ bytes) = expected_at whole (Bits bits)
 number_error top bits whole (suc room) (b ∷ bytes) =
-    if nat_lt b top then expected_at whole (Bits bits) else (if nat_lt b 128 then expected_at (b ∷ bytes) Index
+    if nat_lt b top then expected_at whole (Bits bits)
+    else (if nat_lt b 128 then expected_at (b ∷ bytes) Index
     else number_error top bits whole room bytes)
 
 -- Where the first byte is what can't be read, another expectation stands in place of that of the
