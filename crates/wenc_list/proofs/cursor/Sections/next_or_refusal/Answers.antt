@@ -1,4 +1,4 @@
-use Rattle.std.proofs.Common.{refl, inl}
+use Rattle.std.proofs.Common.{refl, inl, arith}
 use Rattle.wenc_list.proofs.Listed.{never_framed, no_frame}
 use Rattle.wenc_list.proofs.SectionLaws.{is_framed}
 use Rattle.wenc_list.proofs.Taken.{section_leaves, count_holds, no_count, collects_other, uncounted, uncounted_fault}
@@ -39,7 +39,7 @@ returns-in-Err-counted-clause-unopened c =
         framed = is_framed c.args.self.now.rest.now id content c.in-Ok.rest.now c.in-Ok.ensures.found;
         collecting = collecting;
         never = λ n items r. uncounted id content bad n items (inl (collecting, r));
-        none_left = refl;
+        none_left = omega arith;
         is_place = c.place-place.ensures;
         is_end = c.saturating_sub.ensures;
       },
