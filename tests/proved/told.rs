@@ -7,7 +7,7 @@ use crate::proved::wasm_encoder::{Command, Running, build, producers_command};
 use crate::proved::wenc_base::{Encode, EntityType, ProducersSection};
 use crate::proved::wenc_builder::ComponentBuilder;
 use crate::proved::wenc_canon::{AddsBuiltin, CanonicalFunctionSection};
-use crate::proved::wenc_list::{ListFault, ProducersParts, Sections, names_in};
+use crate::proved::wenc_list::{ListFault, Names, ProducersParts, Sections, names_in};
 use crate::proved::wenc_parts::ComponentExternName;
 use crate::proved::wenc_read::{Expected, NestedRefusal, Refusal};
 use crate::proved::wenc_view::{CoreInstanceView, ListOf, TypeView, View, type_at};
@@ -124,6 +124,22 @@ fn lists_have_their_members_alone() {
         let counts = [(); 3].map(|()| (decls.left, Members::next(&mut decls).is_some()));
         assert_eq!(counts, [(1, true), (0, false), (0, false)]);
     }
+}
+
+/// Where a list is, also one without members, and what follows its last member.
+#[test]
+fn lists_have_their_places() {
+    let (mut list, _) = ListOf::<u32>::view_of(b"\x01\x05\x06\x07").unwrap();
+    assert_eq!((Members::next(&mut list), list.bytes), (Some(5), &b"\x06\x07"[..]));
+    let (none, _) = ListOf::<u32>::view_of(b"\0\x06").unwrap();
+    assert_eq!((none.left, none.bytes), (0, &b"\x06"[..]));
+    let Ok((TypeView::Component(none), _)) = type_at(9, b"\x41\0\x06") else { panic!("it is") };
+    assert_eq!((none.left, none.bytes, none.depth_left), (0, &b"\x06"[..], 8));
+    let bytes = b"\x41\x01\x01\x7f\x06";
+    let Ok((TypeView::Component(mut decls), _)) = type_at(9, bytes) else { panic!("it is") };
+    assert!(Members::next(&mut decls).is_some() && decls.bytes == b"\x06");
+    let Ok(Names::Items(_, none)) = names_in(1, b"\x01\0") else { panic!("they are names") };
+    assert!(none.left == 0 && none.bytes.is_empty());
 }
 
 #[test]
