@@ -68,8 +68,10 @@ abbrev pub of_byte : ℕ → ValType
 of_byte b =
     if nat_eq b 0x7f then I32 else if nat_eq b 0x7e then I64 else if nat_eq b 0x7d then F32
     else if nat_eq b 0x7c then F64 else if nat_eq b 0x7b then V128
-    else Ref (record { nullable = true
-                     ; heap_type = Abstract (if nat_eq b 0x70 then Func else Extern) })
+    else Ref (record {
+      nullable = true;
+      heap_type = Abstract (if nat_eq b 0x70 then Func else Extern);
+    })
 
 abbrev pub is_byte_reference : Bool → HeapType → Bool
 is_byte_reference true (Abstract Func) = true

@@ -43,9 +43,7 @@ impl<A: AsSlice<u32>> Encode for ComponentStartSection<A> {
 }
 
 impl<A: AsSlice<u32>> Delimited for ComponentStartSection<A> {
-    ghost reads_back = {
-        as_seen (λ s. started s.function_index (A.items s.args) s.results) start_lawful
-    };
+    ghost reads_back = { as_seen (λ s. started s.function_index (A.items s.args) s.results) start_lawful };
 
     ghost written = { λ _. serves_itself };
 }
