@@ -109,6 +109,7 @@ impl<'a> CountedWalk<'a> {
         let defined = match self.last {
             Last::Define(defined) => defined,
             Last::Leave => {
+                // 32 bits: the depth is below the number of bytes.
                 self.counts.truncate(depth + 1);
                 Some((Space::Components, 1))
             }

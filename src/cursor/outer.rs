@@ -44,6 +44,7 @@ impl ItemView<'_> {
                 Step::Item(item) => item.view.node().each_index(|used| {
                     let Scope::Component(out) = used.scope else { return };
                     // the components from the item's own to this one
+                    // 32 bits: the depth is below the number of bytes.
                     let within = u32::try_from(walk.depth() + 1).unwrap_or(u32::MAX);
                     if let Some(out) = out.checked_sub(within) {
                         visit(UsedIndex { scope: Scope::Component(out), ..used });

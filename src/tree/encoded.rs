@@ -197,7 +197,9 @@ impl Places<'_> {
     }
 
     fn text(&mut self, text: &str, node: Node<'_>) {
+        // 32 bits: there are fewer than bytes in memory.
         let before = self.bytes[self.at..].iter().take_while(|byte| **byte >= 0x80).count() + 1;
+        // 32 bits: both are at most the number of bytes, which is half of what fits.
         let content = self.bytes.get(self.at + before..).and_then(|rest| rest.get(..text.len()));
         self.is_wrong |= content != Some(text.as_bytes());
         self.own(before.saturating_add(text.len()), node);
@@ -307,6 +309,7 @@ impl Places<'_> {
             for _ in 0..count {
                 let kind = usize::from(self.byte());
                 self.tag(1, value);
+                // 32 bits: the number of a byte, and one.
                 self.field(fields, kind + 1);
             }
         }

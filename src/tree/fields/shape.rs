@@ -64,6 +64,7 @@ pub(in crate::tree) enum Part {
 pub(super) const fn field(fields: &[(&str, Role)], name: &str) -> usize {
     let mut at = 0;
     while !is_equal(fields[at].0.as_bytes(), name.as_bytes()) {
+        // 32 bits: there are fewer fields than bytes in memory.
         at += 1;
     }
     at
@@ -72,6 +73,7 @@ pub(super) const fn field(fields: &[(&str, Role)], name: &str) -> usize {
 const fn is_equal(a: &[u8], b: &[u8]) -> bool {
     let mut at = 0;
     while at < a.len() && at < b.len() && a[at] == b[at] {
+        // 32 bits: below both lengths.
         at += 1;
     }
     at == a.len() && at == b.len()
