@@ -180,7 +180,9 @@ fn errors_are_passed_on() {
         (&Some(&globals), UNSUPPORTED),
         (&usize::MAX, Error::TooMany),
     ];
-    for (value, error) in values {
+    // no length of 32 bits is too large
+    let number = if cfg!(target_pointer_width = "32") { 2 } else { 3 };
+    for (value, error) in values.into_iter().take(number) {
         let mut sink = vec![0xee];
         assert_eq!((value.try_encode(&mut sink), sink), (Err(error), vec![0xee]));
     }
